@@ -13,6 +13,7 @@ pub mod IncreaseLemmas
 pub mod Parts
 pub mod Codes
 pub mod LinesOf
+pub mod LineEnds
 pub mod Numbers
 pub mod Ranges
 pub mod Spellings

@@ -44,6 +44,10 @@ spelled false Told.Itself = Itself
 spelled false Told.Printable = Plain
 spelled false Told.Nothing = Other
 
+-- a line begins before the item of this entry, if it isn't the first of its text
+abbrev pub is_begun : Entry → Bool
+is_begun entry = not (entry.lines == 0)
+
 -- what an entry says of the gap of its item, which is the first of its text or not: without a character and a splice it
 -- is empty
 abbrev pub gap_kept : Bool → Entry → GapFacts

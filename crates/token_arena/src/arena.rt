@@ -1,14 +1,15 @@
 //! The store of items, and what it answers.
 
-ghost use Rattle.std.specs.Prelude.{◌≡◌, ◌==◌, ◌<◌, ◌≤◌, ◌+◌, ◌^◌, length, take, drop, Some, get_or, slice_get};
+ghost use Rattle.std.specs.Prelude.{◌≡◌, ◌==◌, ◌<◌, ◌≤◌, ◌+◌, ◌^◌, ◌∷◌, length, take, drop, Some, get_or, slice_get};
 ghost use Rattle.std.specs.Prelude.{if◌then◌else◌, IsTrue};
-ghost use Rattle.std.specs.List.{list_all};
+ghost use Rattle.std.specs.List.{list_all, position_or_len, slice_range};
 ghost use Rattle.c_chars.specs.Characters.{is_plain, mark_len};
 ghost use Rattle.c_chars.specs.declared.TheConstants.{LIMIT};
 ghost use Rattle.token_arena.specs.Gaps.{gap_of, gap_start, gap_end, joined, StandFrom};
 ghost use Rattle.token_arena.specs.Holds.{HoldsItems};
 ghost use Rattle.token_arena.specs.Entries.{told_by, AreEntries, contents_of, gap_kept, is_back, is_itself};
-ghost use Rattle.token_arena.specs.Entries.{is_printable};
+ghost use Rattle.token_arena.specs.Entries.{is_begun, is_printable};
+ghost use Rattle.token_arena.specs.Sections.{lines_of};
 ghost use Rattle.token_arena.specs.Stored.{Stored};
 
 use crate::facts::{Rows, line_feeds, one_row, rows_of, rows_of_any};
@@ -117,6 +118,19 @@ fn gap_kept(entry: &Entry, is_first: bool) -> GapFacts
         splice: entry.splice,
         began: is_first || entry.lines != 0,
     }
+}
+
+/// Where the first of these entries stands before which a line begins, or how many there are.
+#[inline(always)]
+fn first_begun(entries: &[Entry]) -> usize
+    ensures { result ≡ position_or_len is_begun entries.now }
+{
+    for (i, entry) in entries.iter().enumerate() {
+        if entry.lines != 0 {
+            return i;
+        }
+    }
+    entries.len()
 }
 
 /// So many bytes of a text, from an offset on.
@@ -230,6 +244,19 @@ impl<'a, 's> TokenArena<'a, 's> {
             IsTrue (list_all is_plain (get_or self.now.tokens id.0 no_token).raw) }
     {
         is_itself(self.entries[id.0 as usize].spelled)
+    }
+
+    /// The first item behind the line that begins with this one.
+    #[inline(always)]
+    pub(crate) fn line_end(&self, at: u32) -> u32
+        requires { at < length self.now.tokens }
+        ensures behind { at < result }
+        ensures within { result ≤ length self.now.tokens }
+        ensures line { lines_of (drop at self.now.tokens)
+            ≡ slice_range self.now.tokens at result ∷ lines_of (drop result self.now.tokens) }
+    {
+        let next = at as usize + 1;
+        (next + first_begun(&self.entries[next..])) as u32
     }
 
     /// The bytes before the item with this number, or after the last item. The mark is in no gap.

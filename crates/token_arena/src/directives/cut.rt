@@ -10,23 +10,6 @@ use bumpalo::Bump;
 use bumpalo::collections::into_bump_slice;
 use line_tokens::{NoMemory, TokenId};
 
-/// The first item behind the line that begins with this one.
-fn line_end(arena: &TokenArena<'_, '_>, at: u32) -> u32
-    requires { at < length arena.now.tokens }
-    ensures behind { at < result }
-    ensures within { result ≤ length arena.now.tokens }
-    ensures line { lines_of (drop at arena.now.tokens)
-        ≡ slice_range arena.now.tokens at result ∷ lines_of (drop result arena.now.tokens) }
-{
-    let count = arena.len();
-    for end in at + 1..count {
-        if arena.get(TokenId(end)).gap.began {
-            return end;
-        }
-    }
-    count
-}
-
 /// The directive that these items of a line are; none exactly where they are text.
 fn directive_in(arena: &TokenArena<'_, '_>, first: u32, end: u32) -> Option<Directive>
     requires order { first ≤ end }
@@ -57,7 +40,7 @@ fn cut_lines<'a>(arena: &TokenArena<'_, '_>, bump: &'a Bump) -> Result<&'a [Sect
     let mut from = 0;
     let mut at = 0;
     while at < count {
-        let end = line_end(arena, at);
+        let end = arena.line_end(at);
         if let Some(directive) = directive_in(arena, at, end) {
             if from < at {
                 done.push(Section::Text {
