@@ -14,6 +14,7 @@ pub mod Parts
 pub mod Codes
 pub mod LinesOf
 pub mod LineEnds
+pub mod Remarks
 pub mod Numbers
 pub mod Ranges
 pub mod Spellings

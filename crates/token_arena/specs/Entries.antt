@@ -7,6 +7,7 @@ use Rattle.token_arena.specs.Gaps.{Contents}
 use Rattle.token_arena.specs.Holds.{IsSound}
 use Rattle.c_chars.specs.Characters.{is_plain}
 use Rattle.c_chars.specs.declared.Dialect.{Dialect}
+use Rattle.c_grammar.specs.Fitting.{is_comment}
 use Rattle.c_lexer.specs.declared.item.Lexeme.{Lexeme}
 use Rattle.line_tokens.specs.declared.GapFacts.{GapFacts}
 use Rattle.token_arena.specs.Stored.{Stored, is_line_feed, line_at, rows_of, first_row, last_row, width_of}
@@ -47,6 +48,10 @@ spelled false Told.Nothing = Other
 -- a line begins before the item of this entry, if it isn't the first of its text
 abbrev pub is_begun : Entry → Bool
 is_begun entry = not (entry.lines == 0)
+
+-- the item of this entry is a comment
+abbrev pub keeps_comment : Entry → Bool
+keeps_comment entry = is_comment entry.kind
 
 -- what an entry says of the gap of its item, which is the first of its text or not: without a character and a splice it
 -- is empty

@@ -5,13 +5,15 @@ ghost use Rattle.std.specs.Prelude.{if◌then◌else◌, IsTrue};
 ghost use Rattle.std.specs.List.{list_all, position_or_len, slice_range};
 ghost use Rattle.c_chars.specs.Characters.{is_plain, mark_len};
 ghost use Rattle.c_chars.specs.declared.TheConstants.{LIMIT};
+ghost use Rattle.c_grammar.specs.Fitting.{is_comment};
 ghost use Rattle.token_arena.specs.Gaps.{gap_of, gap_start, gap_end, joined, StandFrom};
 ghost use Rattle.token_arena.specs.Holds.{HoldsItems};
 ghost use Rattle.token_arena.specs.Entries.{told_by, AreEntries, contents_of, gap_kept, is_back, is_itself};
-ghost use Rattle.token_arena.specs.Entries.{is_begun, is_printable};
+ghost use Rattle.token_arena.specs.Entries.{is_begun, is_printable, keeps_comment};
 ghost use Rattle.token_arena.specs.Sections.{lines_of};
 ghost use Rattle.token_arena.specs.Stored.{Stored};
 
+use crate::directives::names::is_comment;
 use crate::facts::{Rows, line_feeds, one_row, rows_of, rows_of_any};
 use c_lexer::{Dialect, Item, ItemKind};
 use line_tokens::{GapFacts, TokenId};
@@ -127,6 +129,19 @@ fn first_begun(entries: &[Entry]) -> usize
 {
     for (i, entry) in entries.iter().enumerate() {
         if entry.lines != 0 {
+            return i;
+        }
+    }
+    entries.len()
+}
+
+/// Where the first comment stands among the items of these entries, or how many there are.
+#[inline(always)]
+fn first_comment(entries: &[Entry]) -> usize
+    ensures { result ≡ position_or_len keeps_comment entries.now }
+{
+    for (i, entry) in entries.iter().enumerate() {
+        if is_comment(entry.kind) {
             return i;
         }
     }
@@ -257,6 +272,16 @@ impl<'a, 's> TokenArena<'a, 's> {
     {
         let next = at as usize + 1;
         (next + first_begun(&self.entries[next..])) as u32
+    }
+
+    /// The first comment from the item with this number on, or how many items there are.
+    pub fn next_comment(&self, from: u32) -> u32
+        requires { from ≤ length self.now.tokens }
+        ensures { result
+            ≡ from + position_or_len (λ (token : Stored). is_comment token.kind) (drop from self.now.tokens) }
+    {
+        let from = from as usize;
+        (from + first_comment(&self.entries[from..])) as u32
     }
 
     /// The bytes before the item with this number, or after the last item. The mark is in no gap.

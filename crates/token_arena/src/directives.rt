@@ -6,7 +6,7 @@
 mod cut;
 mod keeping;
 mod laws;
-mod names;
+pub(crate) mod names;
 mod nesting;
 mod spelling;
 

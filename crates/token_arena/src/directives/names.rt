@@ -16,7 +16,8 @@ use crate::{DirectiveKind, Token, TokenArena};
 use c_chars::{Dialect, next_character};
 use line_tokens::{ItemKind, TokenId};
 
-fn is_comment(kind: ItemKind) -> bool
+/// Whether it is a comment.
+pub(crate) fn is_comment(kind: ItemKind) -> bool
     ensures { result ≡ is_comment kind }
 {
     matches!(kind, ItemKind::BlockComment | ItemKind::LineComment)
