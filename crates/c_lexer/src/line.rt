@@ -78,8 +78,9 @@ pub(crate) struct Gap<'s> {
     pub rest: Chars<'s>,
 }
 
-/// The gap that the text begins with, and what stands behind it.
-pub(crate) fn behind_gap<'s>(text: &Chars<'s>) -> Gap<'s>
+/// The gap that the text begins with, and what stands behind it, whatever they are written as.
+#[inline(never)]
+fn behind_any_gap<'s>(text: &Chars<'s>) -> Gap<'s>
     requires { IsSpanned text.now }
     ensures lines { result.lines ≡ new_lines (first_gap text.now.chars) }
     ensures bytes { result.bytes ≡ bytes_in (first_gap text.now.chars) }
@@ -142,6 +143,28 @@ pub(crate) fn begin_plain<'s>(text: &Chars<'s>) -> Option<Begun<'s>>
         rest = behind.ahead();
     }
     None
+}
+
+/// The gap that the text begins with, and what stands behind it. Most are plain bytes.
+#[inline(always)]
+pub(crate) fn behind_gap<'s>(text: &Chars<'s>) -> Gap<'s>
+    requires { IsSpanned text.now }
+    ensures lines { result.lines ≡ new_lines (first_gap text.now.chars) }
+    ensures bytes { result.bytes ≡ bytes_in (first_gap text.now.chars) }
+    ensures rest { result.rest
+        ≡ behind text.now (prefix_len (λ c. is_white c || is_new_line c) (bytes_of text.now.chars)) }
+{
+    match begin_plain(text) {
+        Some(begun) => Gap {
+            lines: begun.lines,
+            bytes: begun.bytes,
+            rest: begun.text,
+        },
+        None => {
+            let gap = behind_any_gap(text);
+            gap
+        }
+    }
 }
 
 /// What stands behind the letters and digits that the text begins with.

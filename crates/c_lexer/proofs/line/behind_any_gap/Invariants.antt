@@ -5,7 +5,7 @@ use Rattle.c_chars.specs.Coming.{behind}
 use Rattle.c_grammar.specs.Grammar.{is_white, is_new_line}
 use Rattle.c_grammar.specs.Place.{IsSpanned}
 use Rattle.c_lexer.specs.Reading.{new_lines, bytes_in, first_gap}
-use Rattle.c_lexer.proofs.line.behind_gap.Given as goal
+use Rattle.c_lexer.proofs.line.behind_any_gap.Given as goal
 
 abbrev pub invariant-loop-c : goal.invariant-loop-c
 invariant-loop-c l = record {

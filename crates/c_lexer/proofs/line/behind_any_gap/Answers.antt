@@ -7,7 +7,7 @@ use Rattle.c_grammar.specs.Place.{IsSpanned}
 use Rattle.c_lexer.specs.Reading.{new_lines, bytes_in, first_gap}
 use Rattle.c_lexer.proofs.Gaps.{lines_step, bytes_step, one_on, at_most_one, spaces_on}
 use Rattle.c_lexer.proofs.Passing.{prefix_next}
-use Rattle.c_lexer.proofs.line.behind_gap.Goals as goal
+use Rattle.c_lexer.proofs.line.behind_any_gap.Goals as goal
 
 pub loop-c-init : goal.loop-c-init
 loop-c-init c =
