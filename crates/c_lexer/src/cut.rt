@@ -157,9 +157,6 @@ fn cut_plain_mark<'s>(dialect: Dialect, begun: &Begun<'s>) -> Option<(ItemKind, 
 {
     let first = begun.first.byte;
     let left = begun.behind.ahead();
-    if class::is_lone_mark(first) {
-        return Some((ItemKind::Punct, left));
-    }
     if !punctuator::begins_long(first) {
         return None;
     }
@@ -195,6 +192,9 @@ pub(crate) fn cut_plain<'s>(dialect: Dialect, begun: &Begun<'s>) -> Option<(Item
 {
     if bytes::is_letter(begun.first.byte) {
         return word::cut_plain_word(begun);
+    }
+    if class::is_lone_mark(begun.first.byte) {
+        return Some((ItemKind::Punct, begun.behind.ahead()));
     }
     if bytes::is_digit(begun.first.byte) {
         return unit::cut_plain_number(dialect, begun);
