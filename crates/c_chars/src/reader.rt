@@ -303,10 +303,8 @@ impl<'s> Chars<'s> {
     pub fn ahead(&self) -> Chars<'s>
         ensures { result ≡ self.now }
     {
-        // Field by field, so that what lies between them in memory isn't kept too.
-        let Cursor { text, at, dialect } = self.cursor;
         Chars {
-            cursor: Cursor { text, at, dialect },
+            cursor: self.cursor,
         }
     }
 }
