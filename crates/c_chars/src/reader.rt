@@ -234,6 +234,8 @@ impl<'s> Chars<'s> {
     }
 
     /// Steps behind the space that comes next, where one does. How many they are: one or none.
+    ///
+    /// It stays before one where lines are spliced.
     #[inline(always)]
     pub fn pass_space(&mut self) -> u32
         ensures passed { AreSpacesPassed self.old self.new result }
