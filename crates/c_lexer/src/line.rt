@@ -161,6 +161,7 @@ pub(crate) fn behind_gap<'s>(text: &Chars<'s>) -> Gap<'s>
             rest: begun.text,
         },
         None => {
+            // By a name of its own, so that what this function gives needs no place in memory.
             let gap = behind_any_gap(text);
             gap
         }

@@ -3,7 +3,7 @@ use Rattle.std.proofs.Common.{◌≡◌, ◌∙◌, ℕ, suc, ◌+◌, ◌-◌, 
 use Rattle.std.specs.Prelude.{nat_lt, if◌then◌else◌}
 use Rattle.std.specs.List.{slice_range}
 use Rattle.std.specs.Option.{option_map}
-use Rattle.std.proofs.lemmas.List.{drop_more, drop_all, drop-drop, length-drop, length-take-le}
+use Rattle.std.proofs.lemmas.List.{drop_more, drop-drop, length-drop, length-take-le}
 use Rattle.std.proofs.lemmas.Option.{slice_get_within, slice_get_cases, get_or_from_slice_get}
 use Rattle.c_chars.specs.declared.Dialect.{Dialect}
 use Rattle.token_arena.specs.Stored.{Stored}
@@ -23,14 +23,6 @@ with_text first end sections = if nat_lt first end then text_before first end se
 
 here : (xs : List Stored) (at : ℕ) (t : Stored) → slice_get xs at ≡ Some t → drop at xs ≡ t ∷ drop (at + 1) xs
 here xs at t is = let within : at < length xs = slice_get_within xs at t is in drop_more xs at t within ∙ ap (λ y. y ∷ drop (at + 1) xs) (get_or_from_slice_get xs at t t is)
-
-pub tail_stops : (xs : List Stored) (at : ℕ) (t : Stored) → slice_get xs at ≡ Some t → t.gap.began ≡ true → tail_len (drop at xs) ≡ 0
-tail_stops xs at t is h = ap tail_len (here xs at t is) ∙ rw h refl
-
-pub tail_steps : (xs : List Stored) (at : ℕ) (t : Stored) → slice_get xs at ≡ Some t → t.gap.began ≡ false → at + tail_len (drop at xs) ≡ (at + 1) + tail_len (drop (at + 1) xs)
-tail_steps xs at t is h =
-    let e : tail_len (drop at xs) ≡ suc (tail_len (drop (at + 1) xs)) = ap tail_len (here xs at t is) ∙ rw h refl in
-    omega (arith, e)
 
 first_line : (b : Bool) (x y : Stored) (ys : List Stored) → lines_of (y ∷ ys) ≡ (y ∷ take (tail_len ys) ys) ∷ lines_of (drop (tail_len ys) ys)
     → (if b then (x ∷ []) ∷ (y ∷ take (tail_len ys) ys) ∷ lines_of (drop (tail_len ys) ys) else (x ∷ (y ∷ take (tail_len ys) ys)) ∷ lines_of (drop (tail_len ys) ys))
@@ -130,6 +122,3 @@ pushed_text from at done new dir rest less is =
 
 pub pushed_none : (from at : ℕ) (done : List Section) (rest : List Section) → from ≤ at → at ≤ from → done ++ rest ≡ done ++ with_text from at rest
 pushed_none from at done rest a b = let e : from ≡ at = omega arith in rw (e, with_none at rest) refl
-
-pub tail_end : (xs : List Stored) (at : ℕ) → length xs ≤ at → tail_len (drop at xs) ≡ 0
-tail_end xs at h = ap tail_len (drop_all at xs h)
