@@ -4,7 +4,7 @@ use Rattle.std.proofs.Common.{Option, None, List, [], ◌∷◌, ◌++◌, lengt
 use Rattle.std.specs.Bool.{OnTrue}
 use Rattle.std.proofs.lemmas.List.{set-get_or}
 use Rattle.line_tokens.specs.Columns.{columns, end_of}
-use Rattle.line_tokens.specs.Roles.{is_comma}
+use Rattle.line_tokens.specs.Roles.{is_comma, is_trailing}
 use Rattle.line_tokens.specs.declared.role.Role.{Role}
 use Rattle.line_tokens.specs.declared.role.Role.TheVariants.{CallOpen, DeclOpen, ListOpen}
 use Rattle.line_tokens.specs.declared.LineTok.{LineTok}
@@ -19,12 +19,12 @@ use Rattle.line_state.specs.declared.spot.Spot.{Spot}
 use Rattle.line_state.specs.Brackets.{opens_frame, binds_commas, binds_opening}
 use Rattle.line_state.specs.Layout.{Layout, gap_before, open_frames, is_after_opener, spot_of, is_free, opened_frame}
 use Rattle.line_state.specs.Layout.{comma_frame, placed_frame, placed_frames, new_frame, frames_after, layout_after}
-use Rattle.line_state.specs.Layout.{start_at, start_of, is_allowed, keeps_rules_at, cost_of}
+use Rattle.line_state.specs.Layout.{start_at, start_of, is_allowed, keeps_rules_at, cost_of, excess, excess_at}
 use Rattle.frame_store.specs.Frames.{topmost, with_topmost}
 use Rattle.frame_store.specs.declared.node.NodeState.{NodeState}
 use Rattle.frame_store.specs.Store.{FrameList, list_at}
 use Rattle.line_state.specs.StoredStates.{layout_in}
-use Rattle.line_state.specs.Beside.{IsBeside, excess_beside}
+use Rattle.line_state.specs.Beside.{IsBelow, IsBeside, excess_below, excess_beside, row_start}
 
 past_false : (a c : Bool) → (a && false && c) ≡ false
 past_false true c = refl
@@ -154,14 +154,103 @@ steps_beside style layout gap rule brk is beside =
     let free : StepsBeside style layout gap false = subst (λ (f : Option Fixed). StepsBeside style layout (record { left = gap.left; right = gap.right; fixed = f; first = gap.first }) false) (sym beside.free) inside in
     subst (λ (b : Bool). StepsBeside style layout gap b) (sym beside.stays) free
 
+-- the layout of a step that leaves the frames as they are, in a store
+aside_in : (style : Style) (lists : List FrameList) (state next : NodeState) (gap : Gap) (brk : Bool) (begin : ℕ) → begin ≡ start_of style (layout_in lists state) gap brk → frames_after style (layout_in lists state) gap brk ≡ open_frames (layout_in lists state) gap →
+    next.index ≡ state.index + 1 → (low : ℕ) → next.node ≡ low → list_at lists low ≡ record { base = (list_at lists state.node).base; frames = open_frames (layout_in lists state) gap } →
+    next.column ≡ end_of gap.right begin → layout_in lists next ≡ layout_after style (layout_in lists state) gap brk
+aside_in style lists state next gap brk begin start frames index low node list column =
+    ap (λ (i : ℕ). let l : Layout = record { index = i; column = next.column; base = (list_at lists next.node).base; frames = (list_at lists next.node).frames } in l) index
+    ∙ ap (λ (n : ℕ). let l : Layout = record { index = state.index + 1; column = next.column; base = (list_at lists n).base; frames = (list_at lists n).frames } in l) node
+    ∙ ap (λ (e : FrameList). let l : Layout = record { index = state.index + 1; column = next.column; base = e.base; frames = e.frames } in l) list
+    ∙ ap (λ (k : ℕ). let l : Layout = record { index = state.index + 1; column = k; base = (list_at lists state.node).base; frames = open_frames (layout_in lists state) gap } in l) (column ∙ ap (λ (k : ℕ). end_of gap.right k) start)
+    ∙ ap (λ (fs : List Frame). let l : Layout = record { index = state.index + 1; column = end_of gap.right (start_of style (layout_in lists state) gap brk); base = (list_at lists state.node).base; frames = fs } in l) (sym frames)
+
 -- the layout of such a step, in a store
 pub beside_in : (style : Style) (lists : List FrameList) (state next : NodeState) (gap : Gap) (brk : Bool) → StepsBeside style (layout_in lists state) gap brk → (spaces : ℕ) → spaces ≡ spaces_before style gap.left gap.right → next.index ≡ state.index + 1 → (low : ℕ) → next.node ≡ low →
     list_at lists low ≡ record { base = (list_at lists state.node).base; frames = open_frames (layout_in lists state) gap } →
     next.column ≡ end_of gap.right (columns state.column spaces) → layout_in lists next ≡ layout_after style (layout_in lists state) gap brk
 beside_in style lists state next gap brk steps spaces told index low node list column =
     let start : columns state.column spaces ≡ start_of style (layout_in lists state) gap brk = ap (λ (n : ℕ). columns state.column n) told ∙ sym steps.start in
-    ap (λ (i : ℕ). let l : Layout = record { index = i; column = next.column; base = (list_at lists next.node).base; frames = (list_at lists next.node).frames } in l) index
-    ∙ ap (λ (n : ℕ). let l : Layout = record { index = state.index + 1; column = next.column; base = (list_at lists n).base; frames = (list_at lists n).frames } in l) node
-    ∙ ap (λ (e : FrameList). let l : Layout = record { index = state.index + 1; column = next.column; base = e.base; frames = e.frames } in l) list
-    ∙ ap (λ (k : ℕ). let l : Layout = record { index = state.index + 1; column = k; base = (list_at lists state.node).base; frames = open_frames (layout_in lists state) gap } in l) (column ∙ ap (λ (k : ℕ). end_of gap.right k) start)
-    ∙ ap (λ (fs : List Frame). let l : Layout = record { index = state.index + 1; column = end_of gap.right (start_of style (layout_in lists state) gap brk); base = (list_at lists state.node).base; frames = fs } in l) (sym steps.frames)
+    aside_in style lists state next gap brk (columns state.column spaces) start steps.frames index low node list column
+
+-- what a step by a token that begins a row tells
+pub record StepsBelow (style : Style) (layout : Layout) (gap : Gap) (brk : Bool) : Type 0 where
+  pub allowed : is_allowed style layout gap brk ≡ true
+  pub frames : frames_after style layout gap brk ≡ open_frames layout gap
+  pub start : start_of style layout gap brk ≡ row_start gap.right.role (record { base = layout.base; frames = open_frames layout gap })
+  pub cost : cost_of style layout gap brk ≡ (gap_rule style gap.left gap.right).cost + style.penalty_excess_character * excess_below style (row_start gap.right.role (record { base = layout.base; frames = open_frames layout gap })) gap.right
+
+keeps_broken : (binds comma one two opening opened zero : Bool) → (comma && binds) ≡ false → opening ≡ false → (not ((binds && comma) && one && true) && not ((binds && comma) && two && not true) && not ((opening && not opened) && zero && true)) ≡ true
+keeps_broken true true one two opening opened zero e o = absurd (true-false e)
+  where
+    true-false : true ≡ false → ⊥
+    true-false e = cc
+keeps_broken binds comma one two true opened zero e o = absurd (true-false o)
+  where
+    true-false : true ≡ false → ⊥
+    true-false e = cc
+keeps_broken true false one two false opened zero e o = refl
+keeps_broken false comma one two false opened zero e o = refl
+
+none_before : (trailing : Bool) (limit n : ℕ) → (if trailing then 0 else n - (0 - limit)) ≡ (if trailing then 0 else n)
+none_before true limit n = refl
+none_before false limit n = omega arith
+
+free_cost : (can must : Bool) (cost : ℕ) → can ≡ true → must ≡ false → (if (can && not must) && true then cost else 0) ≡ cost
+free_cost true false cost c m = refl
+free_cost true true cost c m = absurd (true-false m)
+  where
+    true-false : true ≡ false → ⊥
+    true-false e = cc
+free_cost false must cost c m = absurd (false-true c)
+  where
+    false-true : false ≡ true → ⊥
+    false-true e = cc
+
+module _ (style : Style) (layout : Layout) (left right : LineTok) (may : (gap_rule style left right).must ≡ false) (can : (gap_rule style left right).can ≡ true) (left_opens : opens_frame left.role ≡ false) (right_opens : opens_frame right.role ≡ false)
+    (unbound : (opener : Role) → (is_comma left.role && binds_commas style opener) ≡ false) (released : (opener : Role) → binds_opening style opener ≡ false) where
+  abbrev there : Gap
+  there = record { left = left; right = right; fixed = None; first = false }
+
+  abbrev spot_there : Spot
+  spot_there = spot_of layout there
+
+  abbrev begins : ℕ
+  begins = row_start right.role (record { base = layout.base; frames = open_frames layout there })
+
+  keeps_there : keeps_rules_at style spot_there there true ≡ true
+  keeps_there = keeps_broken (binds_commas style spot_there.top.opener) (is_comma left.role) (spot_there.top.comma == 1) (spot_there.top.comma == 2) (binds_opening style spot_there.top.opener) spot_there.opened (spot_there.top.opening == 0) (unbound spot_there.top.opener) (released spot_there.top.opener)
+
+  allowed_there : is_allowed style layout there true ≡ true
+  allowed_there = ap (λ (b : Bool). if b then true else (if (gap_rule style left right).can then keeps_rules_at style spot_there there true else not true)) may
+      ∙ ap (λ (b : Bool). if b then keeps_rules_at style spot_there there true else not true) can ∙ keeps_there
+
+  cost_there : cost_of style layout there true ≡ (gap_rule style left right).cost + style.penalty_excess_character * excess_below style begins right
+  cost_there =
+      ap (λ (n : ℕ). n + style.penalty_excess_character * excess_at style spot_there there true) (free_cost (gap_rule style left right).can (gap_rule style left right).must (gap_rule style left right).cost can may)
+      ∙ ap (λ (n : ℕ). (gap_rule style left right).cost + style.penalty_excess_character * n) (none_before (is_trailing right.role) style.column_limit (excess style (columns begins right.first_width)))
+
+  steps_there : StepsBelow style layout there true
+  steps_there = record {
+    allowed = allowed_there;
+    frames = open_stay style layout there true left_opens right_opens (unbound (topmost layout.base (open_frames layout there)).opener);
+    start = refl;
+    cost = cost_there;
+  }
+
+pub steps_below : (style : Style) (layout : Layout) (gap : Gap) (rule : GapRule) (brk : Bool) → rule ≡ gap_rule style gap.left gap.right → IsBelow style gap rule brk → StepsBelow style layout gap brk
+steps_below style layout gap rule brk is below =
+    let may : (gap_rule style gap.left gap.right).must ≡ false = ap (λ (r : GapRule). r.must) (sym is) ∙ below.may in
+    let can : (gap_rule style gap.left gap.right).can ≡ true = ap (λ (r : GapRule). r.can) (sym is) ∙ below.can in
+    let steps = steps_there style layout gap.left gap.right may can below.left below.right below.unbound below.released in
+    let inside : StepsBelow style layout (record { left = gap.left; right = gap.right; fixed = None; first = gap.first }) true = subst (λ (b : Bool). StepsBelow style layout (record { left = gap.left; right = gap.right; fixed = None; first = b }) true) (sym below.inside) steps in
+    let free : StepsBelow style layout gap true = subst (λ (f : Option Fixed). StepsBelow style layout (record { left = gap.left; right = gap.right; fixed = f; first = gap.first }) true) (sym below.free) inside in
+    subst (λ (b : Bool). StepsBelow style layout gap b) (sym below.breaks) free
+
+-- its layout, in a store
+pub below_in : (style : Style) (lists : List FrameList) (state next : NodeState) (gap : Gap) (brk : Bool) → StepsBelow style (layout_in lists state) gap brk → next.index ≡ state.index + 1 → (low : ℕ) → next.node ≡ low →
+    list_at lists low ≡ record { base = (list_at lists state.node).base; frames = open_frames (layout_in lists state) gap } →
+    next.column ≡ end_of gap.right (row_start gap.right.role (list_at lists low)) → layout_in lists next ≡ layout_after style (layout_in lists state) gap brk
+below_in style lists state next gap brk steps index low node list column =
+    let start : row_start gap.right.role (list_at lists low) ≡ start_of style (layout_in lists state) gap brk = ap (λ (l : FrameList). row_start gap.right.role l) list ∙ sym steps.start in
+    aside_in style lists state next gap brk (row_start gap.right.role (list_at lists low)) start steps.frames index low node list column

@@ -1,13 +1,15 @@
--- Tokens that stand beside the one before them and leave the frames as they are.
-use Rattle.std.specs.Prelude.{◌≡◌, ℕ, ◌-◌, Bool, false, ◌&&◌, if◌then◌else◌, None}
-use Rattle.line_tokens.specs.Roles.{is_comma, is_trailing}
+-- Tokens that stand beside the one before them, or begin a row, and leave the frames as they are.
+use Rattle.std.specs.Prelude.{◌≡◌, ℕ, ◌-◌, Bool, true, false, ◌&&◌, if◌then◌else◌, None}
+use Rattle.line_tokens.specs.Roles.{is_comma, is_trailing, is_decl_name, is_list_close}
 use Rattle.line_tokens.specs.declared.role.Role.{Role}
 use Rattle.line_tokens.specs.declared.LineTok.{LineTok}
 use Rattle.line_tokens.specs.Columns.{columns}
 use Rattle.style_table.specs.declared.style.Style.{Style}
 use Rattle.layout_tables.specs.declared.penalties.GapRule.{GapRule}
 use Rattle.line_state.specs.declared.gap.Gap.{Gap}
-use Rattle.line_state.specs.Brackets.{opens_frame, binds_commas}
+use Rattle.frame_store.specs.Frames.{topmost, below_topmost}
+use Rattle.frame_store.specs.Store.{FrameList}
+use Rattle.line_state.specs.Brackets.{opens_frame, binds_commas, binds_opening}
 use Rattle.line_state.specs.Layout.{excess}
 
 -- a token that may stay whatever the frames are, and leaves those as they are that are open before it
@@ -24,3 +26,27 @@ pub record IsBeside (style : Style) (gap : Gap) (rule : GapRule) (brk : Bool) : 
 abbrev pub excess_beside : Style → ℕ → ℕ → LineTok → ℕ
 excess_beside style column start token =
     if is_trailing token.role then 0 else excess style (columns start token.first_width) - excess style column
+
+-- a token that may begin a row whatever the frames are, and leaves those as they are that are open before it
+pub record IsBelow (style : Style) (gap : Gap) (rule : GapRule) (brk : Bool) : Type 0 where
+  pub breaks : brk ≡ true
+  pub inside : gap.first ≡ false
+  pub free : gap.fixed ≡ None
+  pub may : rule.must ≡ false
+  pub can : rule.can ≡ true
+  pub left : opens_frame gap.left.role ≡ false
+  pub right : opens_frame gap.right.role ≡ false
+  pub unbound : (opener : Role) → (is_comma gap.left.role && binds_commas style opener) ≡ false
+  pub released : (opener : Role) → binds_opening style opener ≡ false
+
+-- where it starts inside these frames
+abbrev pub row_start : Role → FrameList → ℕ
+row_start role list =
+    if is_decl_name role then list.base.base
+    else (if is_list_close role then (below_topmost list.base list.frames).base
+    else (topmost list.base list.frames).indent)
+
+-- the columns past the limit of its row
+abbrev pub excess_below : Style → ℕ → LineTok → ℕ
+excess_below style start token =
+    if is_trailing token.role then 0 else excess style (columns start token.first_width)

@@ -4,25 +4,25 @@ ghost use Rattle.std.specs.Prelude.{◌≡◌, ◌+◌, ◌*◌, ◌^◌, ◌<�
 ghost use Rattle.std.specs.Prelude.{IfNone, IfSome, OnSome};
 ghost use Rattle.line_tokens.specs.Roles.{is_comma};
 ghost use Rattle.line_tokens.specs.declared.role.Role.{Role};
-ghost use Rattle.line_state.specs.Brackets.{opens_frame, binds_commas};
+ghost use Rattle.line_state.specs.Brackets.{opens_frame, binds_commas, binds_opening};
 ghost use Rattle.style_table.specs.Range.{IsInRange};
 ghost use Rattle.line_state.specs.Layout.{AreRules, gap_before, is_allowed, spot_of, open_frames, with_opened};
 ghost use Rattle.line_state.specs.Layout.{layout_after, cost_of, cells_of, start_layout};
 ghost use Rattle.frame_store.specs.Frames.{with_topmost};
 ghost use Rattle.frame_store.specs.Store.{list_at, IsIn, IsGrown};
 ghost use Rattle.line_state.specs.StoredStates.{layout_in};
-ghost use Rattle.line_state.specs.Beside.{IsBeside, excess_beside};
+ghost use Rattle.line_state.specs.Beside.{IsBelow, IsBeside, excess_below, excess_beside, row_start};
 ghost use Rattle.line_tokens.specs.Columns.{columns, end_of};
 ghost use Rattle.std.specs.Bool.{OnTrue};
 
 use crate::gap::{Gap, GapRules, gap_rules, opens};
-use crate::placing::{cost, end_column, frame_above, placed, start_column};
+use crate::placing::{cost, end_column, excess_cost, frame_above, placed, start_column};
 use crate::rules::{allows, is_refused};
 use crate::spot::Spot;
 use frame_store::{Frame, FrameStore, NodeState};
 use layout_tables::GapRule;
 use line_tokens::{Fixed, LineTok, NoMemory, Role};
-use style_table::Style;
+use style_table::{AlignAfterOpenBracket, Style};
 
 /// The state before a line's first token, at the column at which the line starts.
 ///
@@ -221,6 +221,17 @@ fn binds_no_gaps(style: &Style, role: Role) -> bool
     !role.is_comma() || style.bin_pack_arguments && style.bin_pack_parameters
 }
 
+/// Whether the gaps in a bracket are free of the gap behind it, whatever bracket it is.
+#[inline(always)]
+fn binds_no_openers(style: &Style) -> bool
+    ensures { OnTrue result ((opener : Role) → binds_opening style.now opener ≡ false) }
+{
+    !matches!(
+        style.align_after_open_bracket,
+        AlignAfterOpenBracket::AlwaysBreak
+    )
+}
+
 /// Whether a token leaves the open frames as they are and may stay whatever they tell: neither it nor the one before it
 /// opens one, and no comma before it binds others.
 #[inline(always)]
@@ -281,6 +292,83 @@ fn step_beside(
     }
 }
 
+/// Whether a token leaves the open frames as they are and may begin a row whatever they tell: neither it nor the one
+/// before it opens one, and neither a comma nor an opener before it binds its gap.
+#[inline(always)]
+fn is_below(style: &Style, gap: &Gap, rule: &GapRule, brk: bool) -> bool
+    ensures { OnTrue result (IsBelow style.now gap.now rule.now brk) }
+{
+    if !brk || gap.first || gap.fixed.is_some() || rule.must || !rule.can {
+        return false;
+    }
+    if opens(gap.left.role) || opens(gap.right.role) {
+        return false;
+    }
+    binds_no_openers(style) && binds_no_gaps(style, gap.left.role)
+}
+
+/// The column at which a token begins a row inside the frames of a node, which are open there.
+#[inline(always)]
+fn row_start(store: &FrameStore<'_>, role: Role, node: u32) -> u32
+    requires { node < length store.now }
+    ensures { result ≡ row_start role (list_at store.now node) }
+{
+    match role {
+        Role::DeclName => store.node(node).base.base,
+        Role::ListClose => store.below_topmost(node).base,
+        _ => store.topmost(node).indent,
+    }
+}
+
+/// The columns past the limit of a token's first row, where the token begins a row at a column.
+#[inline(always)]
+fn excess_below(style: &Style, start: u32, token: &LineTok) -> u32
+    ensures { result ≡ excess_below style.now start token.now }
+{
+    if token.role.is_trailing() {
+        return 0;
+    }
+    start
+        .saturating_add(token.first_width)
+        .saturating_sub(style.column_limit)
+}
+
+/// The state with the gap's token more, which begins a row and leaves the open frames as they are. These are the
+/// node's.
+#[inline(always)]
+fn step_below(
+    store: &FrameStore<'_>,
+    style: &Style,
+    state: &NodeState,
+    gap: &Gap,
+    rule: &GapRule,
+    left_open: u32,
+) -> NodeState
+    requires range { IsInRange style.now }
+    requires known_open { left_open < length store.now }
+    requires index { state.now.index < 4294967295 }
+    requires cost { state.now.cost ≤ state.now.index * 18446744073709551615 }
+    requires low { rule.now.cost < 2 ^ 37 }
+    ensures index { result.index ≡ state.now.index + 1 }
+    ensures node { result.node ≡ left_open }
+    ensures column { result.column ≡ end_of gap.now.right (row_start gap.now.right.role (list_at store.now left_open)) }
+    ensures cost { result.cost
+        ≡ state.now.cost
+        + (rule.now.cost + style.now.penalty_excess_character
+        * excess_below style.now (row_start gap.now.right.role (list_at store.now left_open)) gap.now.right) }
+    ensures bound { result.cost ≤ result.index * 18446744073709551615 }
+{
+    let start = row_start(store, gap.right.role, left_open);
+    let past = excess_below(style, start, &gap.right);
+    let cost = rule.cost + excess_cost(style, past);
+    NodeState {
+        index: state.index + 1,
+        column: end_column(&gap.right, start),
+        cost: state.cost + u128::from(cost),
+        node: left_open,
+    }
+}
+
 /// The state with one token more, as `step_in` tells it, where the choice is admissible and the tables were asked of
 /// the gap before.
 ///
@@ -331,6 +419,10 @@ pub fn try_step_by<'r>(
     let left_open = store.lowest(state.node, gap.right.depth);
     if is_beside(style, &gap, &rules.rule, brk) {
         return Ok(Some(step_beside(style, state, &gap, rules, left_open)));
+    }
+    if is_below(style, &gap, &rules.rule, brk) {
+        let next = step_below(store, style, state, &gap, &rules.rule, left_open);
+        return Ok(Some(next));
     }
     let spot = spot_in(store, state, &gap, left_open);
     if !allows(style, &spot, &gap, &rules.rule, brk) {

@@ -231,13 +231,13 @@ impl<'a> SearchedLine<'a> {
     }
 
     /// Whether the choices that break only where they have to can cost nothing. They can't where what stands between
-    /// two gaps that have to break is wider than a row. This test of widths alone spares many lines the walk over their
-    /// states.
+    /// two gaps that have to break is wider than a row, but for a line of one token, which has no choices. This test of
+    /// widths alone spares many lines the walk over their states.
     pub fn may_be_straight(&self) -> bool
         requires { IsSearchable self.now }
     {
         let limit = self.style.column_limit;
-        if limit == 0 || self.style.penalty_excess_character == 0 {
+        if limit == 0 || self.style.penalty_excess_character == 0 || self.tokens.len() == 1 {
             return true;
         }
         let mut column = self.column;
