@@ -2,10 +2,11 @@
 
 ghost use Rattle.std.specs.Prelude.{◌≡◌, ◌||◌, ◌+◌, ◌<◌, ◌^◌, All, None, OnOk, length, map, if◌then◌else◌};
 ghost use Rattle.style_table.specs.Range.{IsInRange};
-ghost use Rattle.line_state.specs.Layout.{is_some_decision};
+ghost use Rattle.line_state.specs.Layout.{is_some_decision, layout_of};
 ghost use Rattle.line_state.specs.Line.{first_layout};
-ghost use Rattle.searched_line.specs.Searched.{line_of};
-ghost use Rattle.line_walk.specs.Starts.{IsAdmissible, starts_of};
+ghost use Rattle.searched_line.specs.Searched.{IsSearchable, line_of};
+ghost use Rattle.layout_tables.specs.Spaces.{spaces_before};
+ghost use Rattle.line_walk.specs.Starts.{IsAdmissible};
 ghost use Rattle.layout_tables.specs.Indents.{start_column};
 ghost use Rattle.layout_tables.specs.Told.{TellBlanks};
 ghost use Rattle.replacements.specs.Decisions.{decided, decided_all};
@@ -13,11 +14,11 @@ ghost use Rattle.line_tokens.specs.declared.LineTok.{LineTok};
 ghost use Rattle.run_layout.specs.Broken.{broken_made, decision_by, empty_inside, inside_made, number, waits};
 ghost use Rattle.run_layout.specs.Ready.{IsOpenLine, IsReady};
 
-use bumpalo::Bump;
 use layout_tables::{RowBlanks, empty_lines, start_column};
 use line_gaps::{ViewLayout, decide_first, token_at};
+use line_state::State;
 use line_tokens::{Fixed, LineTok, NoMemory, ULine};
-use line_walk::starts;
+use line_walk::{lay_first, lay_next};
 use replacements::{Decision, Plan};
 use style_table::Style;
 
@@ -34,19 +35,19 @@ fn empty_inside(style: &Style, line: &ULine, token: &LineTok) -> u32
     }
 }
 
-/// What stands before a token inside a line, which starts at a column, where its gap breaks or stays.
+/// What stands before a token inside a line, which starts at a column, where its gap breaks or stays behind so many
+/// blanks.
 fn decision_by(
     style: &Style,
-    blanks: &RowBlanks,
     line: &ULine,
-    left: &LineTok,
     right: &LineTok,
+    spaces: u8,
     brk: bool,
     start: u32,
 ) -> Decision
     requires range { IsInRange style.now }
-    requires tell { TellBlanks style.now blanks.now.of_group }
-    ensures { result ≡ decision_by style.now line.now left.now right.now brk start }
+    ensures { (left : LineTok) → spaces ≡ spaces_before style.now left right.now →
+        result ≡ decision_by style.now line.now left right.now brk start }
 {
     if brk {
         Decision::Lines {
@@ -55,7 +56,7 @@ fn decision_by(
             level: line.level,
         }
     } else {
-        Decision::Spaces(u32::from(blanks.before(style, left, right)))
+        Decision::Spaces(u32::from(spaces))
     }
 }
 
@@ -86,42 +87,39 @@ fn decide_open(
     }
 }
 
-/// Decides the open gaps inside a line, by admissible choices; `starts` are the columns at which its tokens then start.
+/// Decides the open gaps inside a line, by admissible choices. The state, that of the first token, walks along them.
 fn write_breaks(
     style: &Style,
     blanks: &RowBlanks,
     line: &ULine,
     tokens: &[LineTok],
+    column: u32,
     fixed: &[Option<Fixed>],
     breaks: &[bool],
-    starts: &[u32],
+    state: &mut State,
     plan: &mut Plan<'_>,
-)
-    requires range { IsInRange style.now }
+) -> Result<(), NoMemory>
     requires tell { TellBlanks style.now blanks.now.of_group }
-    requires some { 0 < length tokens.now }
-    requires even { length fixed.now ≡ length tokens.now }
-    requires admissible { IsAdmissible (line_of style.now (start_column style.now line.now) tokens.now fixed.now)
-        breaks.now }
-    requires starts { starts.now
-        ≡ starts_of (line_of style.now (start_column style.now line.now) tokens.now fixed.now)
-        (first_layout (line_of style.now (start_column style.now line.now) tokens.now fixed.now)) breaks.now }
-    requires aligned { length starts.now ≡ length breaks.now }
+    requires line { IsSearchable (line_of style.now column tokens.now fixed.now) }
+    requires admissible { IsAdmissible (line_of style.now column tokens.now fixed.now) breaks.now }
+    requires first { layout_of state.old ≡ first_layout (line_of style.now column tokens.now fixed.now) }
     requires within { All (λ token. token.id.0 < length plan.old) tokens.now }
-    ensures plan { plan.new
+    ensures plan { OnOk result (plan.new
         ≡ decided_all plan.old (inside_made line.now (map number tokens.now)
-        (line_of style.now (start_column style.now line.now) tokens.now fixed.now)
-        (first_layout (line_of style.now (start_column style.now line.now) tokens.now fixed.now)) breaks.now) }
+        (line_of style.now column tokens.now fixed.now)
+        (first_layout (line_of style.now column tokens.now fixed.now)) breaks.now)) }
     ensures len { length plan.new ≡ length plan.old }
 {
     for at in 0..breaks.len() {
         let left = token_at(tokens, at);
         let right = token_at(tokens, at + 1);
-        let start = starts[at];
+        let spaces = blanks.before(style, left, right);
         let brk = breaks[at];
-        let decision = decision_by(style, blanks, line, left, right, brk, start);
+        let start = lay_next(style, tokens, column, fixed, state, spaces, brk)?;
+        let decision = decision_by(style, line, right, spaces, brk, start);
         decide_open(plan, fixed[at + 1], right, brk, decision, start);
     }
+    Ok(())
 }
 
 /// A line of a view that has an open gap.
@@ -142,7 +140,6 @@ pub(crate) fn write_broken(
     blanks: &RowBlanks,
     breaks: &[bool],
     plan: &mut Plan<'_>,
-    run: &Bump,
 ) -> Result<(), NoMemory>
     requires ready { IsReady layout.now }
     requires tell { TellBlanks layout.now.style.now blanks.now.of_group }
@@ -160,8 +157,10 @@ pub(crate) fn write_broken(
     let tokens = open_line.tokens;
     let fixed = open_line.fixed;
     let column = start_column(style, line);
-    let starts = starts(layout.alloc, style, tokens, column, fixed, breaks, run)?;
+    let mut state = lay_first(layout.alloc, style, tokens, column, fixed)?;
     decide_first(layout, line, token_at(tokens, 0).id.0, plan);
-    write_breaks(style, blanks, line, tokens, fixed, breaks, starts, plan);
+    write_breaks(
+        style, blanks, line, tokens, column, fixed, breaks, &mut state, plan,
+    )?;
     Ok(())
 }

@@ -169,7 +169,7 @@ fn lay_out_unlimited(
         open_line.fixed,
         run,
     )?;
-    write_broken(layout, open_line, blanks, breaks, plan, run)?;
+    write_broken(layout, open_line, blanks, breaks, plan)?;
     Ok(Laid::Unsearched)
 }
 
@@ -204,7 +204,7 @@ fn lay_out_limited(
     let column = start_column(style, open_line.line);
     match search(layout.alloc, style, tokens, column, fixed, budget, run)? {
         Outcome::Found { breaks, cost } => {
-            write_broken(layout, open_line, blanks, breaks, plan, run)?;
+            write_broken(layout, open_line, blanks, breaks, plan)?;
             Ok(Laid::Least { cost })
         }
         Outcome::OverBudget { cells } => {

@@ -1,5 +1,5 @@
 use Rattle.std.proofs.Common.{◌≡◌, length, map}
-use Rattle.layout_tables.specs.Indents.{start_column}
+use Rattle.line_state.specs.Layout.{layout_of}
 use Rattle.searched_line.specs.Searched.{line_of}
 use Rattle.run_layout.specs.Broken.{number}
 use Rattle.run_layout.proofs.Writing.{IsWritten}
@@ -8,5 +8,5 @@ use Rattle.run_layout.proofs.broken.write_breaks.Given as goal
 abbrev pub invariant-loop-at : goal.invariant-loop-at
 invariant-loop-at l = record {
   len : length l.plan ≡ length l.initial.plan;
-  written : IsWritten (line_of l.style (start_column l.style l.line) l.tokens l.fixed) l.line (map number l.tokens) l.breaks l.starts l.initial.plan l.plan l.at;
+  written : IsWritten (line_of l.style l.column l.tokens l.fixed) l.line (map number l.tokens) l.breaks l.initial.plan l.plan (layout_of l.state) l.at;
 }
