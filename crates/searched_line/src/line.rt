@@ -230,9 +230,9 @@ impl<'a> SearchedLine<'a> {
         rules_at(self.rules, at - 1)
     }
 
-    /// Whether the choices that break only where they have to can cost nothing. They can't where what stands between
-    /// two gaps that have to break is wider than a row, but for a line of one token, which has no choices. This test of
-    /// widths alone spares many lines the walk over their states.
+    /// Whether the choices that break only where they have to can cost nothing. They can't where what stands before the
+    /// first gap that has to break is wider than a row, but for a line of one token, which has no choices. This test
+    /// spares many lines the walk over their states.
     pub fn may_be_straight(&self) -> bool
         requires { IsSearchable self.now }
     {
@@ -240,25 +240,13 @@ impl<'a> SearchedLine<'a> {
         if limit == 0 || self.style.penalty_excess_character == 0 || self.tokens.len() == 1 {
             return true;
         }
-        let mut column = self.column;
-        for (at, token) in self.tokens.iter().enumerate() {
-            if self.decision(at).is_some() || token.rows > 1 || token.role.is_trailing() {
-                return true;
-            }
-            if at > 0 {
-                let rules = self.rules_before(at);
-                column = if rules.rule.must {
-                    0
-                } else {
-                    column.saturating_add(u32::from(rules.spaces))
-                };
-            }
-            column = column.saturating_add(token.first_width);
-            if column > limit {
-                return false;
-            }
+        let token = self.token(0);
+        if self.decision(0).is_some() || token.rows > 1 || token.role.is_trailing() {
+            return true;
         }
-        true
+        let ahead = stretch_at(self.stretches, self.tokens.len() - 1);
+        let end = self.column.saturating_add(token.first_width);
+        end.saturating_add(ahead.width) <= limit
     }
 
     /// What the tables say of the gap before a token. The first one stands on both sides of its gap.
