@@ -138,7 +138,7 @@ module _ (style : Style) (layout : Layout) (left right : LineTok) (may : (gap_ru
       ap (λ (n : ℕ). n + style.penalty_excess_character * excess_beside style layout.column (columns layout.column (spaces_before style left right)) right) (no_break (is_free style here) (gap_rule style left right).cost)
       ∙ none_more (style.penalty_excess_character * excess_beside style layout.column (columns layout.column (spaces_before style left right)) right)
 
-  steps_here : StepsBeside style layout here false
+  pub steps_here : StepsBeside style layout here false
   steps_here = record {
     allowed = allowed_here;
     frames = open_stay style layout here false left_opens right_opens (unbound (topmost layout.base (open_frames layout here)).opener);

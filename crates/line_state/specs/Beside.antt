@@ -1,11 +1,14 @@
 -- Tokens that stand beside the one before them, or begin a row, and leave the frames as they are.
-use Rattle.std.specs.Prelude.{◌≡◌, ℕ, ◌-◌, Bool, true, false, ◌&&◌, if◌then◌else◌, None}
+use Rattle.std.specs.Prelude.{◌≡◌, ℕ, ◌+◌, ◌-◌, ◌<◌, nat_lt, Bool, true, false, ◌&&◌, if◌then◌else◌, Option, None}
 use Rattle.line_tokens.specs.Roles.{is_comma, is_trailing, is_decl_name, is_list_close}
 use Rattle.line_tokens.specs.declared.role.Role.{Role}
 use Rattle.line_tokens.specs.declared.LineTok.{LineTok}
+use Rattle.line_tokens.specs.declared.Fixed.{Fixed}
 use Rattle.line_tokens.specs.Columns.{columns}
 use Rattle.style_table.specs.declared.style.Style.{Style}
 use Rattle.layout_tables.specs.declared.penalties.GapRule.{GapRule}
+use Rattle.layout_tables.specs.Breaks.{gap_rule}
+use Rattle.layout_tables.specs.Spaces.{spaces_before}
 use Rattle.line_state.specs.declared.gap.Gap.{Gap}
 use Rattle.frame_store.specs.Frames.{topmost, below_topmost}
 use Rattle.frame_store.specs.Store.{FrameList}
@@ -50,3 +53,20 @@ row_start role list =
 abbrev pub excess_below : Style → ℕ → LineTok → ℕ
 excess_below style start token =
     if is_trailing token.role then 0 else excess style (columns start token.first_width)
+
+-- a token that may stay beside the one before it whatever the frames are, leaves those as they are that are open before
+-- it, and moves the column by the width
+pub record IsAside (style : Style) (left right : LineTok) (fixed : Option Fixed) (width : ℕ) : Type 0 where
+  pub free : fixed ≡ None
+  pub may : (gap_rule style left right).must ≡ false
+  pub left_opens : opens_frame left.role ≡ false
+  pub right_opens : opens_frame right.role ≡ false
+  pub unbound : (opener : Role) → (is_comma left.role && binds_commas style opener) ≡ false
+  pub costs : is_trailing right.role ≡ false
+  pub low : nat_lt 1 right.rows ≡ false
+  pub even : right.first_width ≡ right.last_width
+  pub wide : width ≡ spaces_before style left right + right.first_width
+
+-- a width that is less than the largest number tells that
+abbrev pub IsAsideIfLess : Style → LineTok → LineTok → Option Fixed → ℕ → Type 0
+IsAsideIfLess style left right fixed width = width < 4294967295 → IsAside style left right fixed width

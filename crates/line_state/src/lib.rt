@@ -12,6 +12,7 @@
 //! knows of tokens or columns.
 #![tactic(auto)]
 
+mod aside;
 mod gap;
 mod placing;
 mod rules;
@@ -19,6 +20,7 @@ mod spot;
 mod state;
 mod stepping;
 
+pub use aside::{step_aside, width_aside};
 pub use gap::{Gap, GapRules, gap_rules};
 pub use line_tokens::NoMemory;
 pub use placing::{advance, lay, step};

@@ -215,7 +215,7 @@ pub fn step_in<'r>(
 
 /// Whether a token is no comma by which gaps behind other commas are bound, in whatever bracket it stands.
 #[inline(always)]
-fn binds_no_gaps(style: &Style, role: Role) -> bool
+pub(crate) fn binds_no_gaps(style: &Style, role: Role) -> bool
     ensures { OnTrue result ((opener : Role) → (is_comma role && binds_commas style.now opener) ≡ false) }
 {
     !role.is_comma() || style.bin_pack_arguments && style.bin_pack_parameters

@@ -4,13 +4,14 @@ ghost use Rattle.std.specs.Prelude.{◌≡◌, ℕ, ◌+◌, ◌<◌, Some, leng
 ghost use Rattle.style_table.specs.declared.style.Style.{Style};
 ghost use Rattle.searched_line.specs.Ahead.{can_stay, stretch_with, no_stretch, HaveStretches};
 ghost use Rattle.searched_line.specs.Searched.{line_of};
-ghost use Rattle.searched_line.specs.Rules.{HaveRules};
+ghost use Rattle.searched_line.specs.Rules.{HaveAsides, HaveRules};
 
 use crate::line::{decision_of, rules_at, token_at};
 use bumpalo::Bump;
 use bumpalo::collections::into_bump_slice;
-use line_state::{GapRules, NoMemory};
+use line_state::{GapRules, NoMemory, width_aside};
 use line_tokens::{Fixed, LineTok};
+use style_table::Style;
 
 /// The tokens ahead that may stand on one row, each behind a gap that may stay.
 #[derive(Clone, Copy)]
@@ -79,30 +80,49 @@ pub(crate) fn stretch_at(stretches: &[Stretch], left: usize) -> Stretch
     stretches[left]
 }
 
-/// The stretch ahead for each number of tokens that can be left.
+/// How far the next token moves the column where it stays and so many tokens are left.
+#[inline(always)]
+pub(crate) fn aside_at(asides: &[u32], left: usize) -> u32
+    requires { left < length asides.now }
+    ensures { slice_get asides.now left ≡ Some result }
+{
+    asides[left]
+}
+
+/// The stretch ahead for each number of tokens that can be left, and how far the next token moves the column there where
+/// it stays, as `width_aside` tells it.
 pub(crate) fn stretches_of<'r>(
+    style: &Style,
     tokens: &[LineTok],
     fixed: &[Option<Fixed>],
     rules: &[GapRules],
     run: &'r Bump,
-) -> Result<&'r [Stretch], NoMemory>
+) -> Result<(&'r [Stretch], &'r [u32]), NoMemory>
     requires some { 0 < length tokens.now }
     requires count { length rules.now + 1 ≡ length tokens.now }
-    ensures { IfOk result (λ stretches.
+    requires rules { HaveRules style.now tokens.now rules.now }
+    ensures stretches { IfOk result (λ tables.
         (style : Style) (column : ℕ) → HaveRules style tokens.now rules.now →
-        HaveStretches (line_of style column tokens.now fixed.now) stretches.now) }
+        HaveStretches (line_of style column tokens.now fixed.now) tables.0.now) }
+    ensures asides { IfOk result (λ tables. HaveAsides style.now tokens.now fixed.now tables.1.now) }
 {
     let count = tokens.len();
     let mut stretches = Vec::with_capacity(run, count + 1)?;
+    let mut asides = Vec::with_capacity(run, count)?;
     let mut next = no_stretch();
     stretches.push(next)?;
+    asides.push(u32::MAX)?;
     for left in 0..count - 1 {
         let at = count - 1 - left;
+        let beside = token_at(tokens, at - 1);
         let token = token_at(tokens, at);
         let before = rules_at(rules, at - 1);
-        next = stretch_with(before, token, decision_of(fixed, at), next);
+        let decision = decision_of(fixed, at);
+        let aside = width_aside(style, beside, token, decision, before);
+        next = stretch_with(before, token, decision, next);
+        asides.push(aside)?;
         stretches.push(next)?;
     }
     stretches.push(no_stretch())?;
-    Ok(into_bump_slice(stretches))
+    Ok((into_bump_slice(stretches), into_bump_slice(asides)))
 }

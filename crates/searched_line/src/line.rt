@@ -12,18 +12,19 @@ ghost use Rattle.line_state.specs.Line.{gaps, first_layout, first_cost, decision
 ghost use Rattle.searched_line.specs.Ahead.{least_ahead};
 ghost use Rattle.searched_line.specs.Searched.{IsSearchable, line_of};
 ghost use Rattle.searched_line.specs.Rules.{HaveRules};
+ghost use Rattle.line_state.specs.Beside.{IsAsideIfLess};
 ghost use Rattle.line_state.specs.declared.gap.Gap.{Gap};
 ghost use Rattle.searched_line.specs.Saturation.{IsSaturation, gap_into, reach};
 ghost use Rattle.searched_line.specs.Successors.{IsNextState, IsSuccessor, LeadsOn, LeadsNowhere, states_in};
 
-use crate::ahead::{Stretch, stretch_at, stretches_of};
+use crate::ahead::{Stretch, aside_at, stretch_at, stretches_of};
 use crate::saturation::Saturation;
 use bumpalo::Bump;
 use bumpalo::collections::into_bump_slice;
 use frame_store::{FrameStore, NodeState};
 use line_state::{
     GapRules, NoMemory, State, advance, allowed_by, gap_rules, refused_by, start, start_in,
-    step_in, try_step_by,
+    step_aside, step_in, try_step_by,
 };
 use line_tokens::{Fixed, LineTok};
 use std::alloc::Global;
@@ -115,6 +116,8 @@ pub struct SearchedLine<'a> {
     rules: &'a [GapRules],
     /// The stretch ahead for each number of tokens that can be left.
     stretches: &'a [Stretch],
+    /// For each such number how far the next token moves the column where it stays, as `width_aside` tells it.
+    asides: &'a [u32],
 }
 
 impl<'a> Model for SearchedLine<'a> {
@@ -124,12 +127,13 @@ impl<'a> Model for SearchedLine<'a> {
 
     ghost use Rattle.searched_line.specs.Ahead.{HaveStretches};
     ghost use Rattle.searched_line.specs.Searched.{line_of};
-    ghost use Rattle.searched_line.specs.Rules.{HaveRules};
+    ghost use Rattle.searched_line.specs.Rules.{HaveAsides, HaveRules};
 
     ghost view = { λ l. record { style = l.style.now; column = l.column; tokens = l.tokens.now; fixed = l.fixed.now } };
 
     ghost invariant = { λ l. HaveRules l.style.now l.tokens.now l.rules.now
-        × HaveStretches (line_of l.style.now l.column l.tokens.now l.fixed.now) l.stretches.now };
+        × HaveStretches (line_of l.style.now l.column l.tokens.now l.fixed.now) l.stretches.now
+        × HaveAsides l.style.now l.tokens.now l.fixed.now l.asides.now };
 }
 
 impl<'a> SearchedLine<'a> {
@@ -147,7 +151,7 @@ impl<'a> SearchedLine<'a> {
         ensures { IfOk result (λ line. line ≡ line_of style.now column tokens.now fixed.now) }
     {
         let rules = rules_of(style, tokens, run)?;
-        let stretches = stretches_of(tokens, fixed, rules, run)?;
+        let (stretches, asides) = stretches_of(style, tokens, fixed, rules, run)?;
         Ok(SearchedLine {
             style,
             column,
@@ -155,6 +159,7 @@ impl<'a> SearchedLine<'a> {
             fixed,
             rules,
             stretches,
+            asides,
         })
     }
 
@@ -228,6 +233,19 @@ impl<'a> SearchedLine<'a> {
             slice_get self.now.tokens at ≡ Some right → AreRules self.now.style left right result.now }
     {
         rules_at(self.rules, at - 1)
+    }
+
+    /// How far the token at a place, which isn't the first one, moves the column where it stays, as `width_aside` tells
+    /// it.
+    #[inline(always)]
+    fn aside(&self, at: usize) -> u32
+        requires some { 0 < at }
+        requires at { at < length self.now.tokens }
+        ensures { (left right : LineTok) → slice_get self.now.tokens (at - 1) ≡ Some left →
+            slice_get self.now.tokens at ≡ Some right →
+            IsAsideIfLess self.now.style left right (decision_at self.now at) result }
+    {
+        aside_at(self.asides, self.tokens.len() - at)
     }
 
     /// Whether the choices that break only where they have to can cost nothing. They can't where what stands before the
@@ -334,6 +352,13 @@ impl<'a> SearchedLine<'a> {
         let at = state.index as usize;
         let left = self.token_before(at);
         let right = self.token(at);
+        if !brk {
+            let width = self.aside(at);
+            if width < u32::MAX {
+                let next = step_aside(store, self.style, state, left, right, width);
+                return Ok(Some(next));
+            }
+        }
         let fixed = self.decision(at);
         let rules = self.rules_before(at);
         let next = try_step_by(store, self.style, state, left, right, fixed, rules, brk)?;
