@@ -1,13 +1,13 @@
 -- Tokens that stay aside.
-use Rattle.std.proofs.Common.{◌≡◌, ℕ, ◌+◌, ◌-◌, ◌*◌, ◌<◌, ◌==◌, Bool, true, false, if◌then◌else◌, nat_lt, None, List, refl, arith, ap, sym, ◌∙◌, subst}
+use Rattle.std.proofs.Common.{◌≡◌, ℕ, ◌+◌, ◌-◌, ◌*◌, ◌<◌, ◌==◌, Bool, false, if◌then◌else◌, None, List, refl, arith, ap, sym, ◌∙◌, subst}
 use Rattle.std.proofs.lemmas.Bool.Decides.{nat_tests}
 use Rattle.line_tokens.specs.Columns.{columns, end_of}
 use Rattle.line_tokens.specs.declared.LineTok.{LineTok}
 use Rattle.layout_tables.specs.Spaces.{spaces_before}
 use Rattle.style_table.specs.declared.style.Style.{Style}
 use Rattle.line_state.specs.declared.gap.Gap.{Gap}
-use Rattle.line_state.specs.Layout.{Layout, gap_before, open_frames, is_allowed, layout_after, cost_of}
-use Rattle.line_state.specs.Beside.{IsAside, excess_beside}
+use Rattle.line_state.specs.Layout.{Layout, gap_before, open_frames, layout_after, cost_of}
+use Rattle.line_state.specs.Beside.{IsAside}
 use Rattle.frame_store.specs.declared.node.NodeState.{NodeState}
 use Rattle.frame_store.specs.Store.{FrameList, list_at}
 use Rattle.line_state.specs.StoredStates.{layout_in}

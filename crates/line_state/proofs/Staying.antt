@@ -24,7 +24,7 @@ use Rattle.frame_store.specs.Frames.{topmost, with_topmost}
 use Rattle.frame_store.specs.declared.node.NodeState.{NodeState}
 use Rattle.frame_store.specs.Store.{FrameList, list_at}
 use Rattle.line_state.specs.StoredStates.{layout_in}
-use Rattle.line_state.specs.Beside.{IsBelow, IsBeside, excess_below, excess_beside, row_start}
+use Rattle.line_state.specs.Beside.{IsBelow, excess_below, excess_beside, row_start}
 
 past_false : (a c : Bool) → (a && false && c) ≡ false
 past_false true c = refl
@@ -145,14 +145,6 @@ module _ (style : Style) (layout : Layout) (left right : LineTok) (may : (gap_ru
     start = refl;
     cost = cost_here;
   }
-
-pub steps_beside : (style : Style) (layout : Layout) (gap : Gap) (rule : GapRule) (brk : Bool) → rule ≡ gap_rule style gap.left gap.right → IsBeside style gap rule brk → StepsBeside style layout gap brk
-steps_beside style layout gap rule brk is beside =
-    let may : (gap_rule style gap.left gap.right).must ≡ false = ap (λ (r : GapRule). r.must) (sym is) ∙ beside.may in
-    let steps = steps_here style layout gap.left gap.right may beside.left beside.right beside.unbound in
-    let inside : StepsBeside style layout (record { left = gap.left; right = gap.right; fixed = None; first = gap.first }) false = subst (λ (b : Bool). StepsBeside style layout (record { left = gap.left; right = gap.right; fixed = None; first = b }) false) (sym beside.inside) steps in
-    let free : StepsBeside style layout gap false = subst (λ (f : Option Fixed). StepsBeside style layout (record { left = gap.left; right = gap.right; fixed = f; first = gap.first }) false) (sym beside.free) inside in
-    subst (λ (b : Bool). StepsBeside style layout gap b) (sym beside.stays) free
 
 -- the layout of a step that leaves the frames as they are, in a store
 aside_in : (style : Style) (lists : List FrameList) (state next : NodeState) (gap : Gap) (brk : Bool) (begin : ℕ) → begin ≡ start_of style (layout_in lists state) gap brk → frames_after style (layout_in lists state) gap brk ≡ open_frames (layout_in lists state) gap →

@@ -15,16 +15,6 @@ use Rattle.frame_store.specs.Store.{FrameList}
 use Rattle.line_state.specs.Brackets.{opens_frame, binds_commas, binds_opening}
 use Rattle.line_state.specs.Layout.{excess}
 
--- a token that may stay whatever the frames are, and leaves those as they are that are open before it
-pub record IsBeside (style : Style) (gap : Gap) (rule : GapRule) (brk : Bool) : Type 0 where
-  pub stays : brk ≡ false
-  pub inside : gap.first ≡ false
-  pub free : gap.fixed ≡ None
-  pub may : rule.must ≡ false
-  pub left : opens_frame gap.left.role ≡ false
-  pub right : opens_frame gap.right.role ≡ false
-  pub unbound : (opener : Role) → (is_comma gap.left.role && binds_commas style opener) ≡ false
-
 -- the columns past the limit that a token adds to the row of the token before it
 abbrev pub excess_beside : Style → ℕ → ℕ → LineTok → ℕ
 excess_beside style column start token =

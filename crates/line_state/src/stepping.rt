@@ -11,8 +11,8 @@ ghost use Rattle.line_state.specs.Layout.{layout_after, cost_of, cells_of, start
 ghost use Rattle.frame_store.specs.Frames.{with_topmost};
 ghost use Rattle.frame_store.specs.Store.{list_at, IsIn, IsGrown};
 ghost use Rattle.line_state.specs.StoredStates.{layout_in};
-ghost use Rattle.line_state.specs.Beside.{IsBelow, IsBeside, excess_below, excess_beside, row_start};
-ghost use Rattle.line_tokens.specs.Columns.{columns, end_of};
+ghost use Rattle.line_state.specs.Beside.{IsBelow, excess_below, row_start};
+ghost use Rattle.line_tokens.specs.Columns.{end_of};
 ghost use Rattle.std.specs.Bool.{OnTrue};
 
 use crate::gap::{Gap, GapRules, gap_rules, opens};
@@ -232,66 +232,6 @@ fn binds_no_openers(style: &Style) -> bool
     )
 }
 
-/// Whether a token leaves the open frames as they are and may stay whatever they tell: neither it nor the one before it
-/// opens one, and no comma before it binds others.
-#[inline(always)]
-fn is_beside(style: &Style, gap: &Gap, rule: &GapRule, brk: bool) -> bool
-    ensures { OnTrue result (IsBeside style.now gap.now rule.now brk) }
-{
-    if brk || gap.first || gap.fixed.is_some() || rule.must {
-        return false;
-    }
-    if opens(gap.left.role) || opens(gap.right.role) {
-        return false;
-    }
-    binds_no_gaps(style, gap.left.role)
-}
-
-/// The columns past the limit that a token's first row adds to the row of the token before it.
-#[inline(always)]
-fn excess_beside(style: &Style, column: u32, start: u32, token: &LineTok) -> u32
-    ensures { result ≡ excess_beside style.now column start token.now }
-{
-    if token.role.is_trailing() {
-        return 0;
-    }
-    let after = start
-        .saturating_add(token.first_width)
-        .saturating_sub(style.column_limit);
-    let before = column.saturating_sub(style.column_limit);
-    after.saturating_sub(before)
-}
-
-/// The state with the gap's token more, which stays and leaves the open frames as they are. These are the node's.
-#[inline(always)]
-fn step_beside(
-    style: &Style,
-    state: &NodeState,
-    gap: &Gap,
-    rules: &GapRules,
-    left_open: u32,
-) -> NodeState
-    requires index { state.now.index < 4294967295 }
-    requires cost { state.now.cost ≤ state.now.index * 18446744073709551615 }
-    ensures index { result.index ≡ state.now.index + 1 }
-    ensures node { result.node ≡ left_open }
-    ensures column { result.column ≡ end_of gap.now.right (columns state.now.column rules.now.spaces) }
-    ensures cost { result.cost
-        ≡ state.now.cost + style.now.penalty_excess_character
-        * excess_beside style.now state.now.column (columns state.now.column rules.now.spaces) gap.now.right }
-    ensures bound { result.cost ≤ result.index * 18446744073709551615 }
-{
-    let start = state.column.saturating_add(u32::from(rules.spaces));
-    let past = excess_beside(style, state.column, start, &gap.right);
-    let cost = u64::from(style.penalty_excess_character) * u64::from(past);
-    NodeState {
-        index: state.index + 1,
-        column: end_column(&gap.right, start),
-        cost: state.cost + u128::from(cost),
-        node: left_open,
-    }
-}
-
 /// Whether a token leaves the open frames as they are and may begin a row whatever they tell: neither it nor the one
 /// before it opens one, and neither a comma nor an opener before it binds its gap.
 #[inline(always)]
@@ -417,9 +357,6 @@ pub fn try_step_by<'r>(
         return Ok(None);
     }
     let left_open = store.lowest(state.node, gap.right.depth);
-    if is_beside(style, &gap, &rules.rule, brk) {
-        return Ok(Some(step_beside(style, state, &gap, rules, left_open)));
-    }
     if is_below(style, &gap, &rules.rule, brk) {
         let next = step_below(store, style, state, &gap, &rules.rule, left_open);
         return Ok(Some(next));

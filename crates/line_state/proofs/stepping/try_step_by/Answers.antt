@@ -1,12 +1,11 @@
 use Rattle.std.proofs.Common.{◌≡◌, ℕ, true, false, ◌+◌, ◌*◌, ◌∙◌, ap, sym, rules}
-use Rattle.line_tokens.specs.Columns.{columns}
 use Rattle.line_state.specs.declared.spot.Spot.{Spot}
 use Rattle.layout_tables.specs.declared.penalties.GapRule.{GapRule}
 use Rattle.frame_store.specs.Store.{FrameList}
-use Rattle.line_state.specs.Beside.{excess_below, excess_beside, row_start}
+use Rattle.line_state.specs.Beside.{excess_below, row_start}
 use Rattle.line_state.specs.Layout.{gap_before, spot_of, allows_at, open_frames}
 use Rattle.line_state.specs.StoredStates.{layout_in}
-use Rattle.line_state.proofs.Staying.{steps_below, steps_beside, below_in, beside_in}
+use Rattle.line_state.proofs.Staying.{steps_below, below_in}
 use Rattle.line_state.proofs.Tests.{on_true_at}
 use Rattle.line_state.proofs.stepping.try_step_by.Goals as goal
 
@@ -14,24 +13,6 @@ pub returns-then-is_refused-clause-none : goal.returns-then-is_refused-clause-no
 returns-then-is_refused-clause-none c =
     let layout = layout_in c.args.store.now c.args.state.now in
     on_true_at _ _ c.if-is_refused.true c.is_refused.ensures (spot_of layout (gap_before layout c.args.left.now c.args.right.now c.args.fixed))
-
-pub returns-then-is_beside-clause-some : goal.returns-then-is_beside-clause-some
-returns-then-is_beside-clause-some c = (steps_beside c.args.style.now (layout_in c.args.store.now c.args.state.now) _ _ _ c.requires.rules.rule (on_true_at _ _ c.if-is_beside.true c.is_beside.ensures)).allowed
-
-pub returns-then-is_beside-clause-layout : goal.returns-then-is_beside-clause-layout
-returns-then-is_beside-clause-layout c =
-    let layout = layout_in c.args.store.now c.args.state.now in
-    let steps = steps_beside c.args.style.now layout (gap_before layout c.args.left.now c.args.right.now c.args.fixed) _ _ c.requires.rules.rule (on_true_at _ _ c.if-is_beside.true c.is_beside.ensures) in
-    beside_in c.args.style.now c.args.store.now c.args.state.now c.step_beside.result _ _ steps _ c.requires.rules.spaces c.step_beside.ensures.index _ c.step_beside.ensures.node c.lowest-left_open.ensures.list c.step_beside.ensures.column
-
-pub returns-then-is_beside-clause-cost : goal.returns-then-is_beside-clause-cost
-returns-then-is_beside-clause-cost c =
-    let style = c.args.style.now in
-    let column = c.args.state.now.column in
-    let steps = steps_beside style (layout_in c.args.store.now c.args.state.now) _ _ _ c.requires.rules.rule (on_true_at _ _ c.if-is_beside.true c.is_beside.ensures) in
-    c.step_beside.ensures.cost
-    ∙ ap (λ (spaces : ℕ). c.args.state.now.cost + style.penalty_excess_character * excess_beside style column (columns column spaces) c.args.right.now) c.requires.rules.spaces
-    ∙ ap (λ (cost : ℕ). c.args.state.now.cost + cost) (sym steps.cost)
 
 pub returns-then-is_below-clause-some : goal.returns-then-is_below-clause-some
 returns-then-is_below-clause-some c = (steps_below c.args.style.now (layout_in c.args.store.now c.args.state.now) _ _ _ c.requires.rules.rule (on_true_at _ _ c.if-is_below.true c.is_below.ensures)).allowed
