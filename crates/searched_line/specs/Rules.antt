@@ -15,7 +15,8 @@ pub record HaveRules (style : Style) (tokens : List LineTok) (rules : List GapRu
       slice_get tokens (i + 1) ≡ Some right → slice_get rules i ≡ Some rule → AreRules style left right rule
 
 -- how far each token but the first one moves the column where it stays, by how many tokens are left there
-pub record HaveAsides (style : Style) (tokens : List LineTok) (fixed : List (Option Fixed)) (asides : List ℕ) : Type 0 where
+pub record HaveAsides (style : Style) (tokens : List LineTok) (fixed : List (Option Fixed)) (asides : List ℕ) :
+    Type 0 where
   pub count : length asides ≡ length tokens
   pub told : (at : ℕ) (left right : LineTok) (width : ℕ) → 0 < at → slice_get tokens (at - 1) ≡ Some left →
       slice_get tokens at ≡ Some right → slice_get asides (length tokens - at) ≡ Some width →

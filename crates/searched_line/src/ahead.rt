@@ -89,8 +89,8 @@ pub(crate) fn aside_at(asides: &[u32], left: usize) -> u32
     asides[left]
 }
 
-/// The stretch ahead for each number of tokens that can be left, and how far the next token moves the column there where
-/// it stays, as `width_aside` tells it.
+/// The stretch ahead for each number of tokens that can be left, and how far the next token moves the column there
+/// where it stays, as `width_aside` tells it.
 pub(crate) fn stretches_of<'r>(
     style: &Style,
     tokens: &[LineTok],
