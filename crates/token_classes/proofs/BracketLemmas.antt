@@ -1,6 +1,7 @@
 -- Lemmas on brackets.
 use Rattle.std.proofs.Common.{◌≡◌, ℕ, suc, ◌<◌, ◌+◌, Bool, true, false, List, [], ◌∷◌, ◌++◌, reverse, Option, Some, None, refl, arith, subst, sym, IfSome, IfNone}
 use Rattle.token_classes.specs.declared.pairing.Opener.{Opener}
+use Rattle.token_classes.specs.Classes.{is_opener}
 use Rattle.token_classes.specs.Partners.{count_braces, nearest_brace, is_brace, topmost, Nearest, StandBefore, Matching, bracket_step}
 use Rattle.std.proofs.lemmas.List.{reverse-append}
 use Rattle.token_classes.specs.declared.class.TokenClass.{TokenClass}
@@ -70,13 +71,11 @@ pushed i o old new p e h =
     subst P (sym (reverse_snoc old new o e)) ((omega arith), more i (reverse old) h)
 
 -- any other token changes nothing
-pub other_step : (c : TokenClass) (i : ℕ) (m : Matching)
-    → (c ≡ OpenRound → ⊥) → (c ≡ CloseRound → ⊥) → (c ≡ OpenSquare → ⊥) → (c ≡ CloseSquare → ⊥) → (c ≡ OpenBrace → ⊥) → (c ≡ CloseBrace → ⊥)
-    → m ≡ bracket_step c i m
-other_step OpenRound i m a b d e f g = absurd (a refl)
-other_step CloseRound i m a b d e f g = absurd (b refl)
-other_step OpenSquare i m a b d e f g = absurd (d refl)
-other_step CloseSquare i m a b d e f g = absurd (e refl)
-other_step OpenBrace i m a b d e f g = absurd (f refl)
-other_step CloseBrace i m a b d e f g = absurd (g refl)
-other_step _ i m a b d e f g = refl
+pub other_step : (c : TokenClass) (i : ℕ) (m : Matching) → is_opener c ≡ false → (c ≡ CloseRound → ⊥) → (c ≡ CloseSquare → ⊥) → (c ≡ CloseBrace → ⊥) → m ≡ bracket_step c i m
+other_step OpenRound i m is a b d = cc
+other_step OpenSquare i m is a b d = cc
+other_step OpenBrace i m is a b d = cc
+other_step CloseRound i m is a b d = absurd (a refl)
+other_step CloseSquare i m is a b d = absurd (b refl)
+other_step CloseBrace i m is a b d = absurd (d refl)
+other_step _ i m is a b d = refl

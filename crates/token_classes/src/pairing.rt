@@ -114,13 +114,25 @@ pub(crate) fn close(partners: &mut [Partner], opened: Option<u32>, place: u32)
     }
 }
 
-/// Lets an opener wait. It stands apart since it may have to take memory.
+/// Lets an opener wait for which there may be no room yet.
 #[inline(never)]
-fn push_opener(stack: &mut Vec<Opener, &Bump>, place: u32, kind: TokenClass) -> Result<(), NoMemory>
-    ensures items { OnOk result (stack.new.items ≡ stack.old.items ++ record { place = place; kind = kind } ∷ []) }
+fn push_grown(stack: &mut Vec<Opener, &Bump>, opener: Opener) -> Result<(), NoMemory>
+    ensures items { OnOk result (stack.new.items ≡ stack.old.items ++ opener ∷ []) }
 {
-    stack.push(Opener { place, kind })?;
+    stack.push(opener)?;
     Ok(())
+}
+
+/// Lets an opener wait. Mostly there is room, and no call is made.
+#[inline(always)]
+fn push_opener(stack: &mut Vec<Opener, &Bump>, opener: Opener) -> Result<(), NoMemory>
+    ensures items { OnOk result (stack.new.items ≡ stack.old.items ++ opener ∷ []) }
+{
+    if stack.len() < stack.capacity() {
+        stack.push_reserved(opener);
+        return Ok(());
+    }
+    push_grown(stack, opener)
 }
 
 /// One token, as far as the openers that wait go: the place of the opener that it takes off.
@@ -146,16 +158,12 @@ pub fn waiting_step(
     if !class.is_bracket() {
         return Ok(None);
     }
+    if class.is_opener() {
+        push_opener(stack, Opener { place, kind: class })?;
+        *braces += class.is_open_brace() as usize;
+        return Ok(None);
+    }
     match class {
-        TokenClass::OpenRound | TokenClass::OpenSquare => {
-            push_opener(stack, place, class)?;
-            Ok(None)
-        }
-        TokenClass::OpenBrace => {
-            *braces += 1;
-            push_opener(stack, place, class)?;
-            Ok(None)
-        }
         TokenClass::CloseRound => Ok(take_round(stack)),
         TokenClass::CloseSquare => Ok(take_square(stack)),
         TokenClass::CloseBrace => Ok(take_brace(stack, braces)),

@@ -1,13 +1,10 @@
-use Rattle.std.proofs.Common.{arith, refl, reverse}
+use Rattle.std.proofs.Common.{◌∙◌, arith, refl, reverse, sym}
 use Rattle.token_classes.specs.Partners.{is_round, is_square}
 use Rattle.token_classes.proofs.BracketLemmas.{taken, nearest_low, topmost_low, more, pushed, other_step}
 use Rattle.token_classes.proofs.pairing.waiting_step.Goals as goal
 
-pub returns-in_ok-push_opener-in-OpenRound-clause-before : goal.returns-in_ok-push_opener-in-OpenRound-clause-before
-returns-in_ok-push_opener-in-OpenRound-clause-before c = pushed c.args.place _ _ _ refl c.in_ok-push_opener-in-OpenRound.ensures.items c.requires.before
-
-pub returns-in_ok-push_opener-in-OpenBrace-clause-before : goal.returns-in_ok-push_opener-in-OpenBrace-clause-before
-returns-in_ok-push_opener-in-OpenBrace-clause-before c = pushed c.args.place _ _ _ refl c.in_ok-push_opener-in-OpenBrace.ensures.items c.requires.before
+pub returns-then-is_opener-clause-before : goal.returns-then-is_opener-clause-before
+returns-then-is_opener-clause-before c = pushed c.args.place _ _ _ refl c.in_ok-push_opener.ensures.items c.requires.before
 
 pub returns-in-CloseRound-clause-before : goal.returns-in-CloseRound-clause-before
 returns-in-CloseRound-clause-before c =
@@ -27,7 +24,7 @@ returns-in-CloseBrace-clause-before c =
 
 pub returns-in_default : goal.returns-in_default
 returns-in_default c = record {
-  step = λ partners. other_step c.args.class _ _ c.in_default.not-OpenRound c.in_default.not-CloseRound c.in_default.not-OpenSquare c.in_default.not-CloseSquare c.in_default.not-OpenBrace c.in_default.not-CloseBrace;
+  step = λ partners. other_step c.args.class _ _ (sym c.is_opener.ensures ∙ c.if-is_opener.false) c.in_default.not-CloseRound c.in_default.not-CloseSquare c.in_default.not-CloseBrace;
   opener = λ x e. cc;
   count = c.requires.count;
   small = let q = c.requires.small in omega arith;
