@@ -1,6 +1,6 @@
 //! The brackets that are open behind an item of a part.
 
-ghost use Rattle.std.specs.Prelude.{◌≡◌, ◌<◌, ◌≤◌, ◌+◌, length, reverse, IfOk, List, OnOk, []};
+ghost use Rattle.std.specs.Prelude.{◌≡◌, ◌<◌, ◌≤◌, ◌+◌, length, reverse, IfOk, List, OnOk, [], ◌∷◌, ◌++◌};
 ghost use Rattle.token_classes.specs.declared.pairing.Opener.{Opener};
 ghost use Rattle.token_classes.specs.Partners.{count_braces, StandBefore};
 ghost use Rattle.part_walk.specs.Brackets.{around_of, bodies_behind, braces_of, heads_at, waiting_behind, walk_behind};
@@ -60,6 +60,19 @@ fn begin_bodies(
     Ok(())
 }
 
+/// Lets an opener wait. Mostly there is room, and no call is made.
+#[inline(always)]
+fn push_waiting(waiting: &mut Vec<Opener, &Bump>, opener: Opener) -> Result<(), NoMemory>
+    ensures { OnOk result (waiting.new.items ≡ waiting.old.items ++ opener ∷ []) }
+{
+    if waiting.len() < waiting.capacity() {
+        waiting.push_reserved(opener);
+    } else {
+        waiting.push(opener)?;
+    }
+    Ok(())
+}
+
 /// Goes on with the openers that wait behind a token at a place of a part. `braces` says how many of them are a `{`. It
 /// pushes openers itself: `waiting_step` asks for no more braces than places, and a part may begin in more bodies.
 #[inline(always)]
@@ -84,10 +97,11 @@ fn pass_bracket(
         if class.is_open_brace() {
             *braces += 1;
         }
-        waiting.push(Opener {
+        let opener = Opener {
             place: place + 1,
             kind: class,
-        })?;
+        };
+        push_waiting(waiting, opener)?;
     } else {
         waiting_step(waiting, braces, id.0 + 1, class)?;
     }
