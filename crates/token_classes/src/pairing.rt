@@ -3,6 +3,7 @@
 ghost use Rattle.std.specs.Prelude.{◌≡◌, ◌∷◌, [], ◌++◌, ◌<◌, ◌≤◌, ◌+◌, ◌^◌, reverse, IfOk, Option, Some, None, IfSome};
 ghost use Rattle.std.specs.Prelude.{IfNone, length, OnOk, slice_set};
 ghost use Rattle.std.specs.Option.{ForSome};
+ghost use Rattle.token_classes.specs.Classes.{is_opener};
 ghost use Rattle.token_classes.specs.Partners.{count_braces, nearest_brace, topmost, is_round, is_square, paired};
 ghost use Rattle.token_classes.specs.Partners.{TakesStep, StandBefore};
 
@@ -89,6 +90,19 @@ fn take_round(stack: &mut Vec<Opener, &Bump>) -> Option<u32>
     }
 }
 
+/// The classes of opening brackets, a bit for each.
+const OPENERS: u64 = (1 << TokenClass::OpenRound as u64)
+    | (1 << TokenClass::OpenSquare as u64)
+    | (1 << TokenClass::OpenBrace as u64);
+
+/// An opening bracket. It is told by a bit, so that what waits goes by no table of jumps.
+#[inline(always)]
+fn opens(class: TokenClass) -> bool
+    ensures { result ≡ is_opener class }
+{
+    (OPENERS >> class as u64) % 2 == 1
+}
+
 /// Makes the two places partners.
 #[inline(always)]
 fn match_up(partners: &mut [Partner], opened: u32, place: u32)
@@ -158,7 +172,7 @@ pub fn waiting_step(
     if !class.is_bracket() {
         return Ok(None);
     }
-    if class.is_opener() {
+    if opens(class) {
         push_opener(stack, Opener { place, kind: class })?;
         *braces += class.is_open_brace() as usize;
         return Ok(None);

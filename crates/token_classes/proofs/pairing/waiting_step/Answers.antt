@@ -3,8 +3,8 @@ use Rattle.token_classes.specs.Partners.{is_round, is_square}
 use Rattle.token_classes.proofs.BracketLemmas.{taken, nearest_low, topmost_low, more, pushed, other_step}
 use Rattle.token_classes.proofs.pairing.waiting_step.Goals as goal
 
-pub returns-then-is_opener-clause-before : goal.returns-then-is_opener-clause-before
-returns-then-is_opener-clause-before c = pushed c.args.place _ _ _ refl c.in_ok-push_opener.ensures.items c.requires.before
+pub returns-then-opens-clause-before : goal.returns-then-opens-clause-before
+returns-then-opens-clause-before c = pushed c.args.place _ _ _ refl c.in_ok-push_opener.ensures.items c.requires.before
 
 pub returns-in-CloseRound-clause-before : goal.returns-in-CloseRound-clause-before
 returns-in-CloseRound-clause-before c =
@@ -24,7 +24,7 @@ returns-in-CloseBrace-clause-before c =
 
 pub returns-in_default : goal.returns-in_default
 returns-in_default c = record {
-  step = λ partners. other_step c.args.class _ _ (sym c.is_opener.ensures ∙ c.if-is_opener.false) c.in_default.not-CloseRound c.in_default.not-CloseSquare c.in_default.not-CloseBrace;
+  step = λ partners. other_step c.args.class _ _ (sym c.opens.ensures ∙ c.if-opens.false) c.in_default.not-CloseRound c.in_default.not-CloseSquare c.in_default.not-CloseBrace;
   opener = λ x e. cc;
   count = c.requires.count;
   small = let q = c.requires.small in omega arith;
