@@ -1,11 +1,11 @@
 -- Scans past their end.
-use Rattle.std.proofs.Common.{◌≡◌, ℕ, zero, suc, ◌<◌, ◌≤◌, ◌-◌, nat_lt, Bool, true, false, List, refl, subst, arith}
+use Rattle.std.proofs.Common.{◌≡◌, ℕ, zero, suc, ◌<◌, ◌≤◌, ◌+◌, ◌-◌, ◌&&◌, ◌||◌, not, nat_lt, Bool, true, false, List, refl, sym, ap, subst, arith}
 use Rattle.token_classes.specs.declared.class.TokenClass.{TokenClass}
 use Rattle.statement_lines.specs.declared.token.CodeToken.{CodeToken}
 use Rattle.statement_lines.specs.declared.form.Stop.{Stop}
 use Rattle.statement_lines.specs.Forms.{statement_stop, case_colon, tag_before, class_at, opens_block, step_over}
-use Rattle.statement_lines.specs.Forms.{assigns, is_member_word, call_opener}
-use Rattle.token_classes.specs.Classes.{is_semicolon, is_word}
+use Rattle.statement_lines.specs.Forms.{assigns, behind_partner, is_member_word, call_opener, opens_list, partner_in}
+use Rattle.token_classes.specs.Classes.{is_assigning, is_open_brace, is_opener, is_semicolon, is_word}
 
 lt_true : (a b : ℕ) → a < b → nat_lt a b ≡ true
 lt_true a b h = grind arith
@@ -25,6 +25,19 @@ pub stop_step : (n : ℕ) (tokens : List CodeToken) (end i j : ℕ) (a b : Bool)
 stop_step zero tokens end i j a b whole lt up fuel semi opens ej eb e = absurd (omega arith)
 stop_step (suc n) tokens end i j a b whole lt up fuel semi opens ej eb e =
     (n, ((omega arith), rw (ej, eb) (rw (lt_true i end lt, semi, opens, statement_stop) at e)))
+
+or_none : (x none : Bool) → none ≡ false → x ≡ (x || none)
+or_none true none is = refl
+or_none false none is = sym is
+
+-- a token that neither ends a statement, opens anything nor assigns
+pub still_step : (n : ℕ) (tokens : List CodeToken) (end i : ℕ) (a : Bool) (whole : Stop) → i < end → end - i ≤ n
+    → is_semicolon (class_at tokens i) ≡ false → is_opener (class_at tokens i) ≡ false → is_open_brace (class_at tokens i) ≡ false → is_assigning (class_at tokens i) ≡ false
+    → statement_stop n tokens end i a ≡ whole → (m : ℕ) × ((end - (i + 1) ≤ m) × (statement_stop m tokens end (i + 1) a ≡ whole))
+still_step n tokens end i a whole lt fuel semi opener brace assigning e =
+    let opens : opens_block tokens a i ≡ false = ap (λ (b : Bool). b && not (opens_list tokens a i)) brace in
+    let next : step_over tokens end i ≡ i + 1 = ap (λ (b : Bool). elim b as (λ _. ℕ) [ true ↦ behind_partner end (partner_in tokens end i) | false ↦ i + 1 ]) opener in
+    stop_step n tokens end i (i + 1) a a whole lt (omega arith) fuel semi opens (sym next) (or_none a (is_assigning (class_at tokens i)) assigning) e
 
 pub tag_member : (n : ℕ) (tokens : List CodeToken) (first i : ℕ) (found : TokenClass) → first < i → i - first ≤ n
     → is_member_word (class_at tokens (i - 1)) ≡ true → tag_before n tokens first i found ≡ class_at tokens (i - 1)

@@ -1,8 +1,8 @@
 //! Scans outside brackets.
 
-ghost use Rattle.std.specs.Prelude.{◌≡◌, ◌<◌, ◌≤◌, ◌+◌, ◌-◌, length, slice_get, Some, None, true};
+ghost use Rattle.std.specs.Prelude.{◌≡◌, ◌<◌, ◌≤◌, ◌+◌, ◌-◌, length, slice_get, Some, None, true, false};
 ghost use Rattle.std.specs.Bool.{OnFalse, OnTrue};
-ghost use Rattle.token_classes.specs.Classes.{is_open_brace};
+ghost use Rattle.token_classes.specs.Classes.{is_assigning, is_open_brace, is_opener, is_semicolon};
 ghost use Rattle.token_classes.specs.declared.class.TokenClass.TheVariants.{Nothing};
 ghost use Rattle.statement_lines.specs.Forms.{enumerator_end, statement_stop, call_opener, tag_before, behind};
 ghost use Rattle.statement_lines.specs.Forms.{partner_of, opens_block, assigns, is_member_word, class_at};
@@ -59,6 +59,25 @@ fn opens_block(tokens: &[CodeToken], assigned: bool, place: usize) -> bool
     !opens_list
 }
 
+/// The classes of tokens that a scan for a statement's end does more at than to step on, a bit for each.
+const TELLING: u64 = (1 << TokenClass::OpenRound as u64)
+    | (1 << TokenClass::OpenSquare as u64)
+    | (1 << TokenClass::OpenBrace as u64)
+    | (1 << TokenClass::Semicolon as u64)
+    | (1 << TokenClass::Equals as u64)
+    | (1 << TokenClass::Return as u64);
+
+/// Whether a token neither ends a statement, opens anything nor assigns, as most don't.
+#[inline(always)]
+fn is_still(class: TokenClass) -> bool
+    ensures semicolon { result ≡ true → is_semicolon class ≡ false }
+    ensures opener { result ≡ true → is_opener class ≡ false }
+    ensures brace { result ≡ true → is_open_brace class ≡ false }
+    ensures assigning { result ≡ true → is_assigning class ≡ false }
+{
+    (TELLING >> class as u64) % 2 == 0
+}
+
 /// Where a statement that is no other case ends.
 #[inline(always)]
 #[tactic(auto, using(crate::proofs::ScanLemmas::stop_at_end))]
@@ -78,7 +97,12 @@ pub(crate) fn statement_stop(tokens: &[CodeToken], end: usize, from: usize, assi
     let mut i = from;
     let mut assigned = assigned;
     while i < end {
-        if class_at(tokens, i).is_semicolon() {
+        let class = class_at(tokens, i);
+        if is_still(class) {
+            i += 1;
+            continue;
+        }
+        if class.is_semicolon() {
             return Stop {
                 at: i + 1,
                 opens: false,
