@@ -79,6 +79,7 @@ fn are_same_blanks(
     token: &Token<'_>,
     count: u32,
 ) -> bool
+    requires later { 0 < place }
     requires stands { Stands arena.now.text at (told_by token.now) }
     ensures { IsTrue result → (style : Style) (crlf : Bool) →
         IsSame style crlf arena.now at place (Spaces count) (told_by token.now) }
@@ -86,14 +87,32 @@ fn are_same_blanks(
     if token.item.start as usize - at != count as usize {
         return false;
     }
-    if place == 0 {
-        return false;
-    }
     if is_comment(token.item.kind) && count == 0 {
         return false;
     }
     let byte = arena.text()[at];
     usize::from(standing(byte)) == count as usize + 1
+}
+
+/// Whether blanks are decided before an item behind another, and stand there in the input.
+#[inline(always)]
+pub(crate) fn has_same_blanks(
+    arena: &TokenArena<'_, '_>,
+    at: usize,
+    place: u32,
+    token: &Token<'_>,
+    plan: &Plan<'_>,
+) -> bool
+    requires whole { place < length plan.now }
+    requires later { 0 < place }
+    requires stands { Stands arena.now.text at (told_by token.now) }
+    ensures { IsTrue result → (style : Style) (crlf : Bool) →
+        IsSame style crlf arena.now at place (decision_at plan.now place) (told_by token.now) }
+{
+    match plan.blanks(place) {
+        Some(count) => are_same_blanks(arena, at, place, token, count),
+        None => false,
+    }
 }
 
 /// Whether bytes are the same.
@@ -106,7 +125,7 @@ fn are_equal(left: &[u8], right: &[u8]) -> bool
 
 /// Whether lines that are decided before an item stand there in the input. No `#` comes where the item begins its line.
 #[inline(always)]
-fn are_same_lines(
+pub(crate) fn are_same_lines(
     style: &Style,
     crlf: bool,
     arena: &TokenArena<'_, '_>,
@@ -169,6 +188,9 @@ pub(crate) fn is_same(
     ensures old { is_old (decision_at plan.now place) ≡ true → IsTrue result }
 {
     if let Some(count) = plan.blanks(place) {
+        if place == 0 {
+            return false;
+        }
         return are_same_blanks(arena, at, place, token, count);
     }
     if let Some(gap) = plan.lines(place) {

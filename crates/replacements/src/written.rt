@@ -1,6 +1,6 @@
 //! The text of a plan.
 
-ghost use Rattle.std.specs.Prelude.{◌≡◌, ◌==◌, ◌&&◌, ◌<◌, ◌≤◌, ◌+◌, ◌++◌, List, ℕ, length, drop, OnOk, false};
+ghost use Rattle.std.specs.Prelude.{◌≡◌, ◌==◌, ◌&&◌, ◌<◌, ◌≤◌, ◌+◌, ◌++◌, Bool, List, ℕ, length, drop, OnOk, false};
 ghost use Rattle.std.specs.Io.KnownBytes.{Appends};
 ghost use Rattle.c_chars.specs.Characters.{mark_len};
 ghost use Rattle.token_arena.specs.declared.directives.Section.{Section};
@@ -11,12 +11,15 @@ ghost use Rattle.replacements.specs.Guards.{guard_before, guarded_text};
 ghost use Rattle.replacements.specs.Stances.{stance_in, hash_comes, IsAt, IsKnown};
 ghost use Rattle.replacements.specs.Written.{bytes_between, decision_at, first_gap, is_of_text, is_old, laid_gap};
 ghost use Rattle.replacements.specs.Written.{mark_bytes, planned_gap, written, written_from};
+ghost use Rattle.replacements.specs.declared.gap_text.Decision.TheVariants.{Lines};
 ghost use Rattle.replacements.specs.declared.guard.Guard.TheVariants.{Free};
+ghost use Rattle.style_table.specs.declared.style.Style.{Style};
 
+use crate::entry::LineGap;
 use crate::guard::{Guard, guard_before, guard_for, guard_text, guarded_ends, is_free};
 use crate::hash::{HashRun, hash_comes};
 use crate::plan::Plan;
-use crate::same::{between, comes_no_hash, is_same};
+use crate::same::{are_same_lines, between, comes_no_hash, has_same_blanks, is_same};
 use crate::stance::{Stance, stance_at};
 use crate::{Decision, write_gap};
 use fmt_ports::{Failed, Sink, write_all};
@@ -225,7 +228,115 @@ fn write_anew<K: Sink>(
     Ok(())
 }
 
-/// Writes what stands before an item whose gap doesn't stay, and holds the item.
+/// Writes lines that are decided before an item, and what is held before that, unless the input has them there and
+/// they are held too.
+#[inline(always)]
+fn write_lines_before<K: Sink>(
+    style: &Style,
+    crlf: bool,
+    arena: &TokenArena<'_, '_>,
+    sections: &[Section],
+    walk: &mut Walk,
+    place: u32,
+    token: &Token<'_>,
+    gap: LineGap,
+    sink: &mut K,
+) -> Result<(), Failed>
+    requires tab { 1 ≤ style.now.tab_width }
+    requires inside { place < length arena.now.tokens }
+    requires here { IsAt arena.now.tokens place (told_by token.now) }
+    requires within { walk.old.section ≤ length sections.now }
+    requires later { (k : ℕ) → place ≤ k → stance_in (drop walk.old.section sections.now) k ≡ stance_in sections.now k }
+    requires known { IsKnown arena.now.dialect arena.now.tokens place walk.old.run.end walk.old.run.hash }
+    requires stands { Stands arena.now.text walk.old.at (told_by token.now) }
+    requires held { walk.old.held ≤ walk.old.at }
+    ensures within { walk.new.section ≤ length sections.now }
+    ensures later { (k : ℕ) → place ≤ k → stance_in (drop walk.new.section sections.now) k ≡ stance_in sections.now k }
+    ensures known { IsKnown arena.now.dialect arena.now.tokens place walk.new.run.end walk.new.run.hash }
+    ensures kept { walk.new.at ≡ walk.old.at }
+    ensures held { walk.new.held ≤ token.now.item.start }
+    ensures ok { OnOk result ((piece : List ℕ) × Appends (K.taken sink.old) (K.taken sink.new) piece
+        × (bytes_between arena.now.text walk.old.held walk.old.at
+        ++ planned_gap style.now crlf arena.now (guard_before arena.now.tokens place) walk.old.at place
+        (stance_in sections.now place) (Lines gap.count gap.column gap.level) (told_by token.now)
+        (drop (place + 1) arena.now.tokens)
+        ≡ piece ++ bytes_between arena.now.text walk.new.held token.now.item.start)) }
+    ensures part { AppendsPart (K.taken sink.old) (K.taken sink.new)
+        (bytes_between arena.now.text walk.old.held walk.old.at
+        ++ planned_gap style.now crlf arena.now (guard_before arena.now.tokens place) walk.old.at place
+        (stance_in sections.now place) (Lines gap.count gap.column gap.level) (told_by token.now)
+        (drop (place + 1) arena.now.tokens)) }
+    ensures counts { Counts (K.faults sink.old) (K.faults sink.new) result }
+{
+    if are_same_lines(
+        style, crlf, arena, walk.at, place, token, gap.count, gap.column,
+    ) {
+        return Ok(());
+    }
+    let decision = Decision::Lines {
+        count: gap.count,
+        column: gap.column,
+        level: gap.level,
+    };
+    write_anew(
+        style, crlf, arena, sections, walk, place, token, decision, sink,
+    )
+}
+
+/// Writes what stands before an item, and what is held before that, unless the input has it there and it is held too.
+#[inline(always)]
+fn write_before<K: Sink>(
+    style: &Style,
+    crlf: bool,
+    arena: &TokenArena<'_, '_>,
+    sections: &[Section],
+    plan: &Plan<'_>,
+    walk: &mut Walk,
+    place: u32,
+    token: &Token<'_>,
+    sink: &mut K,
+) -> Result<(), Failed>
+    requires tab { 1 ≤ style.now.tab_width }
+    requires whole { length plan.now ≡ length arena.now.tokens + 1 }
+    requires inside { place < length arena.now.tokens }
+    requires here { IsAt arena.now.tokens place (told_by token.now) }
+    requires within { walk.old.section ≤ length sections.now }
+    requires later { (k : ℕ) → place ≤ k → stance_in (drop walk.old.section sections.now) k ≡ stance_in sections.now k }
+    requires known { IsKnown arena.now.dialect arena.now.tokens place walk.old.run.end walk.old.run.hash }
+    requires stands { Stands arena.now.text walk.old.at (told_by token.now) }
+    requires held { walk.old.held ≤ walk.old.at }
+    ensures within { walk.new.section ≤ length sections.now }
+    ensures later { (k : ℕ) → place ≤ k → stance_in (drop walk.new.section sections.now) k ≡ stance_in sections.now k }
+    ensures known { IsKnown arena.now.dialect arena.now.tokens place walk.new.run.end walk.new.run.hash }
+    ensures kept { walk.new.at ≡ walk.old.at }
+    ensures held { walk.new.held ≤ token.now.item.start }
+    ensures ok { OnOk result ((piece : List ℕ) × Appends (K.taken sink.old) (K.taken sink.new) piece
+        × (bytes_between arena.now.text walk.old.held walk.old.at
+        ++ planned_gap style.now crlf arena.now (guard_before arena.now.tokens place) walk.old.at place
+        (stance_in sections.now place) (decision_at plan.now place) (told_by token.now)
+        (drop (place + 1) arena.now.tokens)
+        ≡ piece ++ bytes_between arena.now.text walk.new.held token.now.item.start)) }
+    ensures part { AppendsPart (K.taken sink.old) (K.taken sink.new)
+        (bytes_between arena.now.text walk.old.held walk.old.at
+        ++ planned_gap style.now crlf arena.now (guard_before arena.now.tokens place) walk.old.at place
+        (stance_in sections.now place) (decision_at plan.now place) (told_by token.now)
+        (drop (place + 1) arena.now.tokens)) }
+    ensures counts { Counts (K.faults sink.old) (K.faults sink.new) result }
+{
+    // Most of these gaps are lines, which are told apart before anything is written.
+    if let Some(gap) = plan.lines(place) {
+        return write_lines_before(style, crlf, arena, sections, walk, place, token, gap, sink);
+    }
+    if is_same(style, crlf, arena, walk.at, place, token, plan) {
+        return Ok(());
+    }
+    let decision = decision_at(plan, place);
+    write_anew(
+        style, crlf, arena, sections, walk, place, token, decision, sink,
+    )
+}
+
+/// Writes what stands before an item that the input doesn't have there, and holds the item.
 #[inline(always)]
 fn write_token<K: Sink>(
     style: &Style,
@@ -246,7 +357,6 @@ fn write_token<K: Sink>(
     requires stand { StandFrom arena.now.text (mark_len arena.now.text) arena.now.tokens }
     requires at { walk.old.at ≡ gap_start (mark_len arena.now.text) arena.now.tokens place }
     requires held { walk.old.held ≤ walk.old.at }
-    requires anew { is_old (decision_at plan.now place) ≡ false }
     ensures within { walk.new.section ≤ length sections.now }
     ensures known { IsKnown arena.now.dialect arena.now.tokens place walk.new.run.end walk.new.run.hash }
     ensures later { (k : ℕ) → place ≤ k → stance_in (drop walk.new.section sections.now) k ≡ stance_in sections.now k }
@@ -268,9 +378,8 @@ fn write_token<K: Sink>(
     ensures counts { Counts (K.faults sink.old) (K.faults sink.new) result }
 {
     let token = arena.get(TokenId(place));
-    let decision = decision_at(plan, place);
-    write_anew(
-        style, crlf, arena, sections, walk, place, &token, decision, sink,
+    write_before(
+        style, crlf, arena, sections, plan, walk, place, &token, sink,
     )?;
     walk.at = token.item.start as usize + token.item.raw.len();
     Ok(())
@@ -290,36 +399,31 @@ fn first_offset(arena: &TokenArena<'_, '_>) -> usize
     if arena.mark() { MARK.len() } else { 0 }
 }
 
-/// Passes items from a place on as long as the gap before each is in the input as it is to be written, so that they
-/// are copied in one stretch. The place of the first other item, or behind the last one; `at` is moved to its gap.
-fn pass_same(
-    style: &Style,
-    crlf: bool,
-    arena: &TokenArena<'_, '_>,
-    plan: &Plan<'_>,
-    place: u32,
-    at: &mut usize,
-) -> u32
+/// Passes items from a place on, which isn't the first, as long as blanks are decided before each and stand there in the
+/// input, so that they are copied in one stretch. The place of the first other item, or behind the last one; `at` is
+/// moved to its gap.
+#[inline(never)]
+fn pass_blanks(arena: &TokenArena<'_, '_>, plan: &Plan<'_>, place: u32, at: &mut usize) -> u32
     requires whole { length plan.now ≡ length arena.now.tokens + 1 }
     requires here { place ≤ length arena.now.tokens }
+    requires behind { 0 < place }
     requires at { at.old ≡ gap_start (mark_len arena.now.text) arena.now.tokens place }
     ensures within { result ≤ length arena.now.tokens }
     ensures later { place ≤ result }
     ensures at { at.new ≡ gap_start (mark_len arena.now.text) arena.now.tokens result }
     ensures on { at.old ≤ at.new }
-    ensures anew { result < length arena.now.tokens → is_old (decision_at plan.now result) ≡ false }
-    ensures same { (sections : List Section) →
-        written_from style.now crlf arena.now sections plan.now (guard_before arena.now.tokens place) at.old place
+    ensures same { (style : Style) (crlf : Bool) (sections : List Section) →
+        written_from style crlf arena.now sections plan.now (guard_before arena.now.tokens place) at.old place
         (drop place arena.now.tokens)
         ≡ bytes_between arena.now.text at.old at.new
-        ++ written_from style.now crlf arena.now sections plan.now (guard_before arena.now.tokens result) at.new
+        ++ written_from style crlf arena.now sections plan.now (guard_before arena.now.tokens result) at.new
         result (drop result arena.now.tokens) }
 {
     let count = arena.len();
     let mut here = *at;
     for next in place..count {
         let token = arena.get(TokenId(next));
-        if !is_same(style, crlf, arena, here, next, &token, plan) {
+        if !has_same_blanks(arena, here, next, &token, plan) {
             *at = here;
             return next;
         }
@@ -356,10 +460,10 @@ fn write_tokens<K: Sink>(
         at: begin,
         held: begin,
     };
-    let mut place = pass_same(style, crlf, arena, plan, 0, &mut walk.at);
+    let mut place = 0;
     while place < count {
         write_token(style, crlf, arena, sections, plan, &mut walk, place, sink)?;
-        place = pass_same(style, crlf, arena, plan, place + 1, &mut walk.at);
+        place = pass_blanks(arena, plan, place + 1, &mut walk.at);
     }
     write_all(sink, between(arena.text(), walk.held, walk.at))?;
     let decision = decision_at(plan, count);

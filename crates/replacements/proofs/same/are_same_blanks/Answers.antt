@@ -18,6 +18,9 @@ returns c = λ h style crlf.
     let within : c.args.at < length arena.text = omega (arith, c.requires.stands.later, c.requires.stands.within, c.requires.stands.some) in
     by_count style crlf told (one_or_none (get_or arena.text c.args.at 0) c.args.count told) within
   where
+    behind : c.args.place ≡ 0 → ⊥
+    behind none = omega (arith, none, c.requires.later)
+
     by_kind : ((c.is_comment.result ≡ true) × (c.args.count ≡ 0 → ⊥)) ⊎ (c.is_comment.result ≡ false) → c.args.count ≡ 0 → is_comment c.args.token.now.item.kind ≡ false
     by_kind (inl h) zero_is = absurd (h.1 zero_is)
     by_kind (inr h) zero_is = sym c.is_comment.ensures ∙ h
@@ -26,12 +29,12 @@ returns c = λ h style crlf.
         → ((c.args.count ≡ 1) × (get_or c.args.arena.now.text c.args.at 0 ≡ 32)) ⊎ ((c.args.count ≡ 0) × (may_begin_hash (get_or c.args.arena.now.text c.args.at 0) ≡ false))
         → c.args.at < length c.args.arena.now.text → IsSame style crlf c.args.arena.now c.args.at c.args.place (Spaces c.args.count) (told_by c.args.token.now)
     by_count style crlf told (inl h) within =
-        same_blank style crlf c.args.arena.now c.args.at c.args.place (Spaces c.args.count) (told_by c.args.token.now) c.if-place-eq0.false (ap Spaces h.0)
+        same_blank style crlf c.args.arena.now c.args.at c.args.place (Spaces c.args.count) (told_by c.args.token.now) behind (ap Spaces h.0)
         (one_between c.args.arena.now.text c.args.at c.args.token.now.item.start within (omega (arith, c.if-token-at.false, h.0)) h.1)
     by_count style crlf told (inr h) within =
         let start : c.args.at ≡ c.args.token.now.item.start = omega (arith, c.if-token-at.false, h.0, c.requires.stands.later) in
         let none : c.args.token.now.item.start - c.args.at ≡ 0 = omega (arith, start) in
         let other = ap (λ n. may_begin_hash (get_or c.args.arena.now.text n 0)) (sym start) ∙ h.1 in
-        same_blanks style crlf c.args.arena.now c.args.at c.args.place c.args.count (Spaces c.args.count) (told_by c.args.token.now) c.if-place-eq0.false refl
+        same_blanks style crlf c.args.arena.now c.args.at c.args.place c.args.count (Spaces c.args.count) (told_by c.args.token.now) behind refl
         (comes_none (told_by c.args.token.now) (by_kind c.else-is_comment.either h.0) (spells_none c.args.arena.now.text c.args.at (told_by c.args.token.now) c.requires.stands other))
         (rw (none, h.0) refl)

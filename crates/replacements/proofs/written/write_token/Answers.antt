@@ -11,13 +11,13 @@ use Rattle.replacements.proofs.Items.{gap_start-next, guard_next}
 use Rattle.replacements.proofs.Writing.{written_next, held_front}
 use Rattle.replacements.proofs.written.write_token.Goals as goal
 
-pub write_anew-requires-clause-stands : goal.write_anew-requires-clause-stands
-write_anew-requires-clause-stands g c =
+pub write_before-requires-clause-stands : goal.write_before-requires-clause-stands
+write_before-requires-clause-stands g c =
     let arena = c.args.arena.now in
     rw c.requires.at (stands_at arena.text (mark_len arena.text) arena.tokens c.args.place (told_by c.get-token.result) c.requires.stand c.get-token.ensures)
 
-pub returns-in_err-write_anew-clause-part : goal.returns-in_err-write_anew-clause-part
-returns-in_err-write_anew-clause-part g c =
+pub returns-in_err-write_before-clause-part : goal.returns-in_err-write_before-clause-part
+returns-in_err-write_before-clause-part g c =
     let style = c.args.style.now in
     let arena = c.args.arena.now in
     let sections = c.args.sections.now in
@@ -27,7 +27,7 @@ returns-in_err-write_anew-clause-part g c =
     let token = told_by c.get-token.result in
     let gap : List ℕ = planned_gap style c.args.crlf arena (guard_before arena.tokens place) walk.at place (stance_in sections place) (decision_at plan place) token (drop (place + 1) arena.tokens) in
     let rest : List ℕ = written_from style c.args.crlf arena sections plan (guard_of token) (behind token) (place + 1) (drop (place + 1) arena.tokens) in
-    let part = rw c.decision_at-decision.ensures at c.in_err-write_anew.ensures.part in
+    let part = c.in_err-write_before.ensures.part in
     part_of_front _ _ (bytes_between arena.text walk.held walk.at ++ gap) (token.raw ++ rest) _
     (held_front (bytes_between arena.text walk.held walk.at) gap token.raw rest _ (written_next style c.args.crlf arena sections plan (guard_before arena.tokens place) walk.at place token c.get-token.ensures))
     part
@@ -37,7 +37,7 @@ returns-clause-at g c =
     let arena = c.args.arena.now in
     let token = told_by c.get-token.result in
     let next : gap_start (mark_len arena.text) arena.tokens (c.args.place + 1) ≡ behind token = gap_start-next (mark_len arena.text) arena.tokens c.args.place token c.get-token.ensures in
-    (sym next, omega (arith, c.write_anew.ensures.held))
+    (sym next, omega (arith, c.write_before.ensures.held))
 
 pub returns-clause-ok : goal.returns-clause-ok
 returns-clause-ok g c =
@@ -49,12 +49,12 @@ returns-clause-ok g c =
     let place = c.args.place in
     let token = told_by c.get-token.result in
     let gap : List ℕ = planned_gap style c.args.crlf arena (guard_before arena.tokens place) walk.at place (stance_in sections place) (decision_at plan place) token (drop (place + 1) arena.tokens) in
-    let any = rw c.decision_at-decision.ensures at c.in_ok-write_anew.ensures.ok in
+    let any = c.in_ok-write_before.ensures.ok in
     let stands : Stands arena.text walk.at token = rw c.requires.at (stands_at arena.text (mark_len arena.text) arena.tokens place token c.requires.stand c.get-token.ensures) in
     let next = written_next style c.args.crlf arena sections plan (guard_before arena.tokens place) walk.at place token c.get-token.ensures in (
       any.0,
       any.1,
-      rw (guard_next arena.tokens place token c.get-token.ensures) (held_next arena.text walk.at walk.held c.write_anew.new.walk.held token gap any.0 _ _ stands c.write_anew.ensures.held any.2 next),
+      rw (guard_next arena.tokens place token c.get-token.ensures) (held_next arena.text walk.at walk.held c.write_before.new.walk.held token gap any.0 _ _ stands c.write_before.ensures.held any.2 next),
     )
 
 pub returns-clause-part : goal.returns-clause-part
@@ -68,7 +68,7 @@ returns-clause-part g c =
     let token = told_by c.get-token.result in
     let gap : List ℕ = planned_gap style c.args.crlf arena (guard_before arena.tokens place) walk.at place (stance_in sections place) (decision_at plan place) token (drop (place + 1) arena.tokens) in
     let rest : List ℕ = written_from style c.args.crlf arena sections plan (guard_of token) (behind token) (place + 1) (drop (place + 1) arena.tokens) in
-    let part = rw c.decision_at-decision.ensures at c.in_ok-write_anew.ensures.part in
+    let part = c.in_ok-write_before.ensures.part in
     part_of_front _ _ (bytes_between arena.text walk.held walk.at ++ gap) (token.raw ++ rest) _
     (held_front (bytes_between arena.text walk.held walk.at) gap token.raw rest _ (written_next style c.args.crlf arena sections plan (guard_before arena.tokens place) walk.at place token c.get-token.ensures))
     part

@@ -1,4 +1,4 @@
-use Rattle.std.proofs.Common.{◌≡◌, ◌∙◌, ◌≤◌, ℕ, List, [], ◌++◌, append_assoc, ap, sym, arith, drop, length, rules, refl, subst}
+use Rattle.std.proofs.Common.{◌≡◌, ◌∙◌, ◌≤◌, ℕ, List, [], ◌++◌, append_assoc, ap, sym, arith, drop, length, rules, refl}
 use Rattle.std.proofs.KnownBytes.{Appends-trans, Appends-nil}
 use Rattle.std.proofs.lemmas.Result.{on_ok_weaker}
 use Rattle.c_chars.specs.Characters.{mark_len}
@@ -7,7 +7,7 @@ use Rattle.token_arena.specs.Gaps.{gap_start}
 use Rattle.replacements.specs.Guards.{guard_before, guarded_text}
 use Rattle.replacements.specs.Written.{bytes_between, decision_at, written_from}
 use Rattle.replacements.specs.declared.guard.Guard.TheVariants.{Free}
-use Rattle.replacements.proofs.Held.{held_passed}
+use Rattle.replacements.proofs.Held.{held_begun, held_passed}
 use Rattle.replacements.proofs.Writing.{starts_within, written_end}
 use Rattle.replacements.proofs.written.write_tokens.Goals as goal
 
@@ -15,21 +15,18 @@ pub loop-place-init : goal.loop-place-init
 loop-place-init g c =
     let arena = c.args.arena.now in
     let begin : c.first_offset-begin.result ≡ mark_len arena.text = c.first_offset-begin.ensures in
-    let passed = c.pass_same-place.ensures in
     record {
-      within = passed.within;
+      within = omega arith;
       section = omega arith;
-      anew = passed.anew;
-      at = passed.at;
-      held = passed.on;
+      at = begin;
+      held = omega arith;
       known = λ k a b. absurd {A = _} (omega (arith, b, c.none.ensures));
       later = λ k a. refl;
       faults = refl;
       taken = (
         [],
         Appends-nil _,
-        subst (λ n. written_from c.args.style.now c.args.crlf arena c.args.sections.now c.args.plan.now Free n 0 arena.tokens ≡ bytes_between arena.text c.first_offset-begin.result c.pass_same-place.new.at
-            ++ written_from c.args.style.now c.args.crlf arena c.args.sections.now c.args.plan.now (guard_before arena.tokens c.pass_same-place.result) c.pass_same-place.new.at c.pass_same-place.result (drop c.pass_same-place.result arena.tokens)) begin (passed.same c.args.sections.now),
+        rw begin (held_begun arena.text (mark_len arena.text) (written_from c.args.style.now c.args.crlf arena c.args.sections.now c.args.plan.now Free (mark_len arena.text) 0 arena.tokens)),
       );
     }
 
@@ -45,16 +42,15 @@ loop-place-preserved g c =
     let piece = c.in_ok-write_token.ensures.ok in
     let on = c.in_ok-write_token.ensures.at in
     let walk = c.write_token.new.walk in
-    let passed = c.pass_same-place-in-loop-place.ensures in
-    let place = c.pass_same-place-in-loop-place.result in
-    let at = c.pass_same-place-in-loop-place.new.at in
+    let passed = c.pass_blanks-place.ensures in
+    let place = c.pass_blanks-place.result in
+    let at = c.pass_blanks-place.new.at in
     let rest : List ℕ = written_from c.args.style.now c.args.crlf arena c.args.sections.now c.args.plan.now (guard_before arena.tokens place) at place (drop place arena.tokens) in
     let all : List ℕ = bytes_between arena.text walk.held at ++ rest in
-    let more = held_passed arena.text walk.held walk.at at _ rest on.1 passed.on (passed.same c.args.sections.now) in
+    let more = held_passed arena.text walk.held walk.at at _ rest on.1 passed.on (passed.same c.args.style.now c.args.crlf c.args.sections.now) in
     record {
       within = passed.within;
       section = c.write_token.ensures.within;
-      anew = passed.anew;
       at = passed.at;
       held = omega (arith, on.1, passed.on);
       known = λ k a b. c.write_token.ensures.known k (omega (arith, a, passed.later)) b;

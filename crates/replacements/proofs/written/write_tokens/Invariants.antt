@@ -1,8 +1,8 @@
-use Rattle.std.proofs.Common.{◌-◌, ◌≡◌, ◌<◌, ◌≤◌, ℕ, false, List, ◌++◌, length, drop}
+use Rattle.std.proofs.Common.{◌-◌, ◌≡◌, ◌≤◌, ℕ, List, ◌++◌, length, drop}
 use Rattle.std.specs.Io.KnownBytes.{Appends}
 use Rattle.c_chars.specs.Characters.{mark_len}
 use Rattle.token_arena.specs.Gaps.{gap_start}
-use Rattle.replacements.specs.Written.{bytes_between, decision_at, is_old, written_from}
+use Rattle.replacements.specs.Written.{bytes_between, written_from}
 use Rattle.replacements.specs.Guards.{guard_before}
 use Rattle.replacements.specs.Stances.{stance_in, IsKnown}
 use Rattle.replacements.specs.declared.guard.Guard.TheVariants.{Free}
@@ -12,7 +12,6 @@ abbrev pub invariant-loop-place : goal.invariant-loop-place
 invariant-loop-place g l = record {
   within : l.place ≤ length l.arena.tokens;
   section : l.walk.section ≤ length l.sections;
-  anew : l.place < length l.arena.tokens → is_old (decision_at l.plan l.place) ≡ false;
   at : l.walk.at ≡ gap_start (mark_len l.arena.text) l.arena.tokens l.place;
   held : l.walk.held ≤ l.walk.at;
   known : IsKnown l.arena.dialect l.arena.tokens l.place l.walk.run.end l.walk.run.hash;

@@ -7,25 +7,26 @@ use Rattle.replacements.specs.Written.{written_from}
 use Rattle.replacements.proofs.Held.{held_begun, stands_at}
 use Rattle.replacements.proofs.Items.{gap_start-next}
 use Rattle.replacements.proofs.SameGaps.{passed_more}
-use Rattle.replacements.proofs.written.pass_same.Goals as goal
+use Rattle.replacements.proofs.written.pass_blanks.Goals as goal
 
 pub loop-next-init : goal.loop-next-init
 loop-next-init c =
     let arena = c.args.arena.now in
     record {
       at = c.requires.at;
+      later = omega arith;
       on = omega arith;
-      same = λ sections. held_begun arena.text c.args.at.now (written_from c.args.style.now c.args.crlf arena sections c.args.plan.now (guard_before arena.tokens c.args.place) c.args.at.now c.args.place (drop c.args.place arena.tokens));
+      same = λ style crlf sections. held_begun arena.text c.args.at.now (written_from style crlf arena sections c.args.plan.now (guard_before arena.tokens c.args.place) c.args.at.now c.args.place (drop c.args.place arena.tokens));
     }
 
-pub is_same-requires : goal.is_same-requires
-is_same-requires c =
+pub has_same_blanks-requires : goal.has_same_blanks-requires
+has_same_blanks-requires c =
     let arena = c.args.arena.now in
     let token = told_by c.get-token.result in
     record {
       whole = omega (arith, c.requires.whole, c.len-count.ensures.count, c.loop-next-test.true);
       stands = rw c.loop-next.invariant.at (stands_at arena.text (mark_len arena.text) arena.tokens c.loop-next.next token c.len-count.ensures.stand c.get-token.ensures);
-      here = omega (arith, c.len-count.ensures.count, c.loop-next-test.true);
+      later = omega (arith, c.requires.behind, c.loop-next.invariant.later);
     }
 
 pub loop-next-preserved : goal.loop-next-preserved
@@ -38,6 +39,7 @@ loop-next-preserved c =
     record {
       at = sym start;
       on = omega (arith, c.loop-next.invariant.on, stands.later);
-      same = λ sections. passed_more c.args.style.now c.args.crlf arena sections c.args.plan.now at c.loop-next.next c.args.at.now token _ stands c.loop-next.invariant.on c.get-token.ensures
-          (c.is_same.ensures.same (search rules)) (c.loop-next.invariant.same sections);
+      later = omega (arith, c.loop-next.invariant.later);
+      same = λ style crlf sections. passed_more style crlf arena sections c.args.plan.now at c.loop-next.next c.args.at.now token _ stands c.loop-next.invariant.on c.get-token.ensures
+          (c.has_same_blanks.ensures (search rules) style crlf) (c.loop-next.invariant.same style crlf sections);
     }
