@@ -1,6 +1,15 @@
 -- The gaps that stay, place by place.
-use Rattle.std.proofs.Common.{◌≡◌, ◌∙◌, ◌||◌, ℕ, zero, suc, ◌+◌, ◌<◌, ◌≤◌, ◌⊎◌, inl, inr, Bool, true, false, Option, Some, None, List, [], ◌∷◌, length, get_or, refl, sym, ap, arith}
+use Rattle.std.proofs.Common.{◌≡◌, ◌∙◌, ◌||◌, ◌&&◌, ℕ, zero, suc, ◌+◌, ◌-◌, ◌<◌, ◌≤◌, ◌⊎◌, inl, inr, Bool, true, false, Option, Some, None, List, [], ◌∷◌, length, get_or, refl, sym, ap, subst, arith}
 use Rattle.std.specs.Prelude.{if◌then◌else◌, slice_get}
+use Rattle.std.proofs.lemmas.List.{get_or-map}
+use Rattle.std.proofs.lemmas.Option.{slice_get-get_or}
+use Rattle.c_grammar.specs.Rewritten.{read_alone}
+use Rattle.c_grammar.specs.Touch.{is_other_kind}
+use Rattle.item_kinds.specs.declared.ItemKind.{ItemKind}
+use Rattle.token_classes.specs.declared.class.TokenClass.{TokenClass}
+use Rattle.token_classes.specs.declared.class.TokenClass.TheVariants.{Other}
+use Rattle.item_classes.specs.Items.{no_item}
+use Rattle.item_classes.specs.Viewed.{class_of, class_spelled, item_classes}
 use Rattle.token_arena.specs.Gaps.{Contents}
 use Rattle.token_arena.specs.Stored.{Stored}
 use Rattle.line_gaps.specs.InputColumns.{kept_slot}
@@ -81,12 +90,77 @@ passed_gap arena frozen place mark behind marked plain is passes =
 before_or : (at place : ℕ) → place < at + 1 → (place < at) ⊎ (place ≡ at)
 before_or at place within = grind (arith, within)
 
+either_side : (at place : ℕ) → (place < at) ⊎ (at ≤ place)
+either_side at place = grind arith
+
 pub none_further : (arena : Contents) (frozen : List Bool) (from at : ℕ) (mark : Bool) (behind : Behind) → mark ≡ get_or frozen at false → IsPlain behind → IsBehind arena at behind → Passes arena mark at
     → ((k : ℕ) → from ≤ k → k < at → is_kept arena frozen k ≡ false) → (k : ℕ) → from ≤ k → k < at + 1 → is_kept arena frozen k ≡ false
 none_further arena frozen from at mark behind marked plain is passes none k low high = elim (before_or at k high) [
   | inl before ↦ none k low before
   | inr here ↦ rw here (passed_gap arena frozen at mark behind marked plain is passes)
 ]
+
+-- one more place is passed
+pub one_passed : (arena : Contents) (frozen : List Bool) (from at : ℕ) (mark : Bool) → mark ≡ get_or frozen at false → ((k : ℕ) → from ≤ k → k < at → Passes arena (get_or frozen k false) k) → Passes arena mark at
+    → (k : ℕ) → from ≤ k → k < at + 1 → Passes arena (get_or frozen k false) k
+one_passed arena frozen from at mark marked before here k low high = elim (before_or at k high) [
+  | inl earlier ↦ before k low earlier
+  | inr same ↦ rw same (subst (λ b. Passes arena b at) marked here)
+]
+
+-- eight more are
+pub eight_passed : (arena : Contents) (frozen : List Bool) (from at : ℕ) → ((k : ℕ) → from ≤ k → k < at → Passes arena (get_or frozen k false) k) → ((k : ℕ) → at ≤ k → k < at + 8 → Passes arena (get_or frozen k false) k)
+    → (k : ℕ) → from ≤ k → k < at + 8 → Passes arena (get_or frozen k false) k
+eight_passed arena frozen from at before behind k low high = elim (either_side at k) [
+  | inl earlier ↦ before k low earlier
+  | inr later ↦ behind k later high
+]
+
+-- a plain item is passed at each of so many places
+pub passed_all : (arena : Contents) (frozen : List Bool) (place n : ℕ) (behind : Behind) → IsPlain behind → IsBehind arena place behind
+    → ((k : ℕ) → place ≤ k → k < place + n → Passes arena (get_or frozen k false) k)
+    → IsBehind arena (place + n) behind × ((k : ℕ) → place ≤ k → k < place + n → is_kept arena frozen k ≡ false)
+passed_all arena frozen place zero behind plain is all =
+    let here : place + 0 ≡ place = omega arith in
+    (rw here is, λ k low high. absurd (omega (arith, low, high)))
+passed_all arena frozen place (suc n) behind plain is all =
+    let before = passed_all arena frozen place n behind plain is (λ k low high. all k low (omega (arith, high))) in
+    let next : place + suc n ≡ place + n + 1 = omega arith in
+    let last = all (place + n) (omega arith) (omega arith) in (
+      rw next (passed_on arena (place + n) (get_or frozen (place + n) false) behind plain before.0 last),
+      λ k low high. none_further arena frozen place (place + n) (get_or frozen (place + n) false) behind refl plain before.0 last before.1 k low (omega (arith, high)),
+    )
+
+-- the same up to a later place
+pub passed_up_to : (arena : Contents) (frozen : List Bool) (place end : ℕ) (behind : Behind) → place ≤ end → IsPlain behind → IsBehind arena place behind
+    → ((k : ℕ) → place ≤ k → k < end → Passes arena (get_or frozen k false) k)
+    → IsBehind arena end behind × ((k : ℕ) → place ≤ k → k < end → is_kept arena frozen k ≡ false)
+passed_up_to arena frozen place end behind order plain is all =
+    let e : place + (end - place) ≡ end = omega (arith, order) in
+    let passed = passed_all arena frozen place (end - place) behind plain is (λ k low high. all k low (omega (arith, high, order))) in
+    (subst (λ n. IsBehind arena n behind) e passed.0, λ k low high. passed.1 k low (omega (arith, high, order)))
+
+-- ## Classes
+
+-- an item whose class is another is no backslash
+by_kind : (kind : ItemKind) (s : List ℕ) (back : Bool) → (class_spelled kind s ≡ Other → ⊥) → (is_other_kind kind && back) ≡ false
+by_kind ItemKind.Identifier s back other = refl
+by_kind ItemKind.Number s back other = refl
+by_kind ItemKind.CharConst s back other = refl
+by_kind ItemKind.StringLit s back other = refl
+by_kind ItemKind.HeaderName s back other = refl
+by_kind ItemKind.Punct s back other = refl
+by_kind ItemKind.LineComment s back other = refl
+by_kind ItemKind.BlockComment s back other = refl
+by_kind ItemKind.StrayQuote s back other = refl
+by_kind ItemKind.Other s back other = absurd (other refl)
+
+pub no_backslash : (arena : Contents) (id : ℕ) (class : TokenClass) → id < length arena.tokens → class ≡ get_or (item_classes arena) id class → (class ≡ Other → ⊥) → is_backslash (slice_get arena.tokens id) ≡ false
+no_backslash arena id class within is other =
+    let token : Stored = get_or arena.tokens id no_item in
+    let told : class ≡ class_of arena.dialect token = is ∙ get_or-map (class_of arena.dialect) arena.tokens id no_item class within in
+    let here : slice_get arena.tokens id ≡ Some token = slice_get-get_or arena.tokens id no_item within in
+    rw here (by_kind token.kind (read_alone arena.dialect token.raw) token.back (λ same. other (told ∙ same)))
 
 -- where a gap doesn't stay, nothing is decided
 pub none_kept : (tab : ℕ) (arena : Contents) (frozen : List Bool) (place : ℕ) → is_kept arena frozen place ≡ false → kept_at tab arena frozen place ≡ None

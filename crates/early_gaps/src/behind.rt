@@ -1,7 +1,8 @@
 //! What the items before a place make of its gap.
 
-ghost use Rattle.std.specs.Prelude.{◌≡◌, ◌≤◌, ◌+◌, false, length, slice_get, IsTrue};
+ghost use Rattle.std.specs.Prelude.{◌≡◌, ◌<◌, ◌≤◌, ◌+◌, false, length, slice_get, IsTrue};
 ghost use Rattle.c_chars.specs.declared.TheConstants.{LIMIT};
+ghost use Rattle.item_classes.specs.Viewed.{item_classes};
 ghost use Rattle.early_gaps.specs.Dead.{IsTreeOf, is_dead_item};
 ghost use Rattle.early_gaps.specs.Joined.{is_backslash, is_joined};
 ghost use Rattle.early_gaps.specs.Kept.{IsBehind, IsPlain, Passes};
@@ -11,6 +12,7 @@ use c_grammar::ItemKind;
 use line_tokens::TokenId;
 use replacements::has_new_line_at;
 use token_arena::TokenArena;
+use token_classes::TokenClass;
 
 /// What the item before a place is. At the first place it is nothing of this.
 #[derive(Clone, Copy)]
@@ -78,29 +80,34 @@ pub(crate) fn is_plain(behind: Behind) -> bool
     }
 }
 
-/// Whether there is an item with this number that may be a backslash alone, as its kind tells.
+/// Whether an item may be a backslash alone, as its class tells.
 #[inline(always)]
-fn may_be_backslash(arena: &TokenArena<'_, '_>, id: u32) -> bool
+fn may_be_backslash(arena: &TokenArena<'_, '_>, classes: &[TokenClass], id: u32) -> bool
+    requires all { classes.now ≡ item_classes arena.now }
+    requires within { id < length arena.now.tokens }
     ensures { result ≡ false → is_backslash (slice_get arena.now.tokens id) ≡ false }
 {
-    id < arena.len() && matches!(arena.get(TokenId(id)).item.kind, ItemKind::Other)
+    matches!(classes[id as usize], TokenClass::Other)
 }
 
-/// Whether no gap stays at a place behind a plain item, and the item there is plain too, as its kind tells; its gap is
+/// Whether no gap stays at a place behind a plain item, and the item there is plain too, as its class tells; its gap is
 /// frozen or not.
 #[inline(always)]
 pub(crate) fn passes(
     arena: &TokenArena<'_, '_>,
     tree: &CondTree<'_>,
+    classes: &[TokenClass],
     frozen: bool,
     place: u32,
 ) -> bool
-    requires { IsTreeOf arena.now tree.now }
+    requires tree { IsTreeOf arena.now tree.now }
+    requires all { classes.now ≡ item_classes arena.now }
+    requires within { place < length arena.now.tokens }
     ensures { IsTrue result → Passes arena.now frozen place }
 {
     // Both are looked up before the first branch: a loop of such looks finds out once where they are kept.
-    let dead = is_dead_item(arena, tree, place);
-    let backslash = may_be_backslash(arena, place);
+    let dead = tree.is_dead(TokenId(place));
+    let backslash = may_be_backslash(arena, classes, place);
     !(frozen | dead | backslash)
 }
 

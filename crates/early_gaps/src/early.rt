@@ -46,7 +46,7 @@ pub fn decide_early(
     let style = context.style;
     let arena = context.arena;
     let marks = frozen(arena, ranges, bump)?;
-    keep_gaps(style.tab_width, arena, tree, marks, plan);
+    keep_gaps(style.tab_width, arena, tree, context.classes, marks, plan);
     lay_all(context.alloc, style, arena, context.classes, sections, plan)?;
     let last = last_decision(style, arena);
     let _ = plan.decide(arena.len(), last, 0);

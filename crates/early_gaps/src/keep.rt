@@ -1,12 +1,14 @@
 //! The gaps that stay as they are.
 
-ghost use Rattle.std.specs.Prelude.{◌≡◌, ◌≤◌, ◌<◌, ◌+◌, ◌||◌, ℕ, Some, None, if◌then◌else◌, false, length};
+ghost use Rattle.std.specs.Prelude.{◌≡◌, ◌≤◌, ◌<◌, ◌+◌, ◌||◌, ℕ, Some, None, if◌then◌else◌, false, get_or, length};
+ghost use Rattle.std.specs.Prelude.{IsTrue};
 ghost use Rattle.c_chars.specs.declared.TheConstants.{LIMIT};
 ghost use Rattle.replacements.specs.Decisions.{decided_all};
 ghost use Rattle.line_gaps.specs.InputColumns.{kept_slot};
+ghost use Rattle.item_classes.specs.Viewed.{item_classes};
 ghost use Rattle.early_gaps.specs.Columns.{column_at};
 ghost use Rattle.early_gaps.specs.Dead.{IsTreeOf};
-ghost use Rattle.early_gaps.specs.Kept.{IsBehind, IsColumn, is_kept, kept_at};
+ghost use Rattle.early_gaps.specs.Kept.{IsBehind, IsColumn, Passes, is_kept, kept_at};
 ghost use Rattle.early_gaps.specs.Made.{made_at, made_from};
 
 use crate::behind::{Behind, is_plain, next_behind, nothing_before, passes};
@@ -14,6 +16,7 @@ use crate::columns::{InputColumn, column_from, first_column};
 use branch_runs::CondTree;
 use replacements::{Decision, Plan};
 use token_arena::TokenArena;
+use token_classes::TokenClass;
 
 /// Whether the gap between two items stays, of which the first is `behind` and the second `here`.
 #[inline(always)]
@@ -54,17 +57,72 @@ fn keep(
     InputColumn { place, column }
 }
 
+/// Whether no gap stays at eight places from one on behind a plain item, and the items there are plain too.
+#[inline(always)]
+fn pass_eight(
+    arena: &TokenArena<'_, '_>,
+    tree: &CondTree<'_>,
+    classes: &[TokenClass],
+    frozen: &[bool],
+    first: u32,
+) -> bool
+    requires tree { IsTreeOf arena.now tree.now }
+    requires all { classes.now ≡ item_classes arena.now }
+    requires marks { length frozen.now ≡ length arena.now.tokens + 1 }
+    requires room { first + 8 ≤ length arena.now.tokens }
+    ensures { IsTrue result → (k : ℕ) → first ≤ k → k < first + 8 → Passes arena.now (get_or frozen.now k false) k }
+{
+    let _count = arena.len();
+    for at in first..first + 8 {
+        if !passes(arena, tree, classes, frozen[at as usize], at) {
+            return false;
+        }
+    }
+    true
+}
+
+/// The places from one on at which no gap stays behind a plain item, and whose items are plain too, looked at by
+/// eights, since that many take fewer steps at once. The first place for which this isn't told.
+#[inline(always)]
+fn plain_front(
+    arena: &TokenArena<'_, '_>,
+    tree: &CondTree<'_>,
+    classes: &[TokenClass],
+    frozen: &[bool],
+    place: u32,
+) -> u32
+    requires tree { IsTreeOf arena.now tree.now }
+    requires all { classes.now ≡ item_classes arena.now }
+    requires marks { length frozen.now ≡ length arena.now.tokens + 1 }
+    requires within { place ≤ length arena.now.tokens }
+    ensures later { place ≤ result }
+    ensures within { result ≤ length arena.now.tokens }
+    ensures passed { (k : ℕ) → place ≤ k → k < result → Passes arena.now (get_or frozen.now k false) k }
+{
+    let count = arena.len();
+    let mut at = place;
+    while count - at >= 8 {
+        if !pass_eight(arena, tree, classes, frozen, at) {
+            return at;
+        }
+        at += 8;
+    }
+    at
+}
+
 /// Passes places at which no gap stays: the items from the one before a place on are plain. The first place for which
 /// this isn't told, or the last one.
 #[inline(never)]
 fn pass_plain(
     arena: &TokenArena<'_, '_>,
     tree: &CondTree<'_>,
+    classes: &[TokenClass],
     frozen: &[bool],
     behind: Behind,
     place: u32,
 ) -> u32
     requires tree { IsTreeOf arena.now tree.now }
+    requires all { classes.now ≡ item_classes arena.now }
     requires marks { length frozen.now ≡ length arena.now.tokens + 1 }
     requires behind { IsBehind arena.now place behind }
     requires within { place ≤ length arena.now.tokens }
@@ -77,8 +135,8 @@ fn pass_plain(
         return place;
     }
     let count = arena.len();
-    for at in place..count {
-        if !passes(arena, tree, frozen[at as usize], at) {
+    for at in plain_front(arena, tree, classes, frozen, place)..count {
+        if !passes(arena, tree, classes, frozen[at as usize], at) {
             return at;
         }
     }
@@ -91,12 +149,14 @@ pub(crate) fn keep_gaps(
     tab: u32,
     arena: &TokenArena<'_, '_>,
     tree: &CondTree<'_>,
+    classes: &[TokenClass],
     frozen: &[bool],
     plan: &mut Plan<'_>,
 )
     requires tab { 1 ≤ tab }
     requires fits { length arena.now.text ≤ LIMIT }
     requires tree { IsTreeOf arena.now tree.now }
+    requires all { classes.now ≡ item_classes arena.now }
     requires marks { length frozen.now ≡ length arena.now.tokens + 1 }
     requires whole { length plan.old ≡ length arena.now.tokens + 1 }
     ensures plan { plan.new
@@ -107,7 +167,7 @@ pub(crate) fn keep_gaps(
     let mut behind = nothing_before(arena);
     let mut place = 0;
     while place <= arena.len() {
-        place = pass_plain(arena, tree, frozen, behind, place);
+        place = pass_plain(arena, tree, classes, frozen, behind, place);
         let here = next_behind(arena, tree, behind, place);
         let kept = stays(frozen[place as usize], behind, here);
         known = keep(tab, arena, kept, known, place, plan);
