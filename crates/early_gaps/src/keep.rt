@@ -73,7 +73,8 @@ fn pass_eight(
     ensures { IsTrue result → (k : ℕ) → first ≤ k → k < first + 8 → Passes arena.now (get_or frozen.now k false) k }
 {
     let _count = arena.len();
-    for at in first..first + 8 {
+    for next in 0..8 {
+        let at = first + next;
         if !passes(arena, tree, classes, frozen[at as usize], at) {
             return false;
         }
