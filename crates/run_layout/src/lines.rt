@@ -81,7 +81,7 @@ fn lay_out_short_row(
     let token = token_at(tokens, 0);
     let id = token.id.0;
     prove!(id < items);
-    if plan.slot(id).is_some() {
+    if plan.is_decided(id) {
         return false;
     }
     let column = start_column(style, line);

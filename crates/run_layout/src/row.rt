@@ -239,7 +239,7 @@ pub(crate) fn short_row(
     let mut most = u64::from(column) + u64::from(most_width(left));
     for at in 1..tokens.len() {
         let right = token_at(tokens, at);
-        if plan.slot(right.id.0).is_some() {
+        if plan.is_decided(right.id.0) {
             return None;
         }
         if !stands_behind(left, right) {

@@ -3,7 +3,7 @@ use Rattle.std.proofs.lemmas.Option.{slice_get_within}
 use Rattle.replacements.specs.Breaks.{fixed_by}
 use Rattle.replacements.specs.Decisions.{slot_of}
 use Rattle.line_gaps.specs.Fixed.{fixed_of_token}
-use Rattle.line_gaps.proofs.Inside.{none_of}
+use Rattle.run_layout.proofs.ShortRows.{open_told}
 use Rattle.run_layout.proofs.LineOutcomes.{length_some}
 use Rattle.run_layout.proofs.RowLines.{tokens_within, first_number, row_here, row_plan}
 use Rattle.run_layout.proofs.lines.lay_out_short_row.Goals as goal
@@ -20,11 +20,11 @@ prove-unreachable-requires c =
     let small : get_or c.args.layout.now.view.now c.args.line.now.first 0 < length c.args.layout.now.arena.now.tokens = c.requires.ready.within c.args.line.now.first 0 (omega (arith, c.requires.some, c.requires.places)) in
     omega (arith, number, small, c.if-prove.true, c.len-items.ensures.count)
 
-pub slot-requires : goal.slot-requires
-slot-requires c = omega (arith, c.if-prove.false, c.requires.whole, c.len-items.ensures.count)
+pub is_decided-requires : goal.is_decided-requires
+is_decided-requires c = omega (arith, c.if-prove.false, c.requires.whole, c.len-items.ensures.count)
 
-pub returns-then-is_some : goal.returns-then-is_some
-returns-then-is_some c = record { row = tt; opens = tt; limit = tt; plan = tt; same = refl; len = refl }
+pub returns-then-is_decided : goal.returns-then-is_decided
+returns-then-is_decided c = record { row = tt; opens = tt; limit = tt; plan = tt; same = refl; len = refl }
 
 pub may_be_short-requires : goal.may_be_short-requires
 may_be_short-requires c = record { some = length_some c.args.layout.now.tokens.now c.tokens_of_line-tokens.result.now c.args.line.now c.tokens_of_line-tokens.ensures c.requires.some (omega (arith, c.requires.places, c.requires.ready.tell.as_many)); few = c.requires.few }
@@ -63,7 +63,7 @@ returns-clause-row c =
     let arena = c.args.layout.now.arena.now in
     let plan = c.args.plan.now in
     let token = c.token_at-token.result.now in
-    let none : slot_of plan token.id.0 ≡ None = sym c.slot.ensures ∙ none_of c.slot.result (sym c.is_some.ensures ∙ c.if-is_some.false) in
+    let none : slot_of plan token.id.0 ≡ None = open_told (slot_of c.args.plan.now c.token_at-token.result.now.id.0) c.is_decided.result c.is_decided.ensures c.if-is_decided.false in
     let first : None ≡ fixed_of_token arena plan token = sym (ap (fixed_by arena token.id.0) none) in
     row_here c.args.layout.now.style.now arena c.args.layout.now.view.now c.args.layout.now.tokens.now plan c.args.line.now c.args.layout.now.budget c.start_column-column.result c.tokens_of_line-tokens.result.now None token
     c.requires.ready.tell c.tokens_of_line-tokens.ensures c.token_at-token.ensures (c.in-Some.ensures.inside) c.start_column-column.ensures first (λ l is. c.in-Some.ensures.row l c.args.layout.now.budget (c.may_be_short.ensures.budget c.if-not-may_be_short.false) is)
@@ -71,7 +71,7 @@ returns-clause-row c =
 pub returns-clause-opens : goal.returns-clause-opens
 returns-clause-opens c =
     let number = first_number c.args.layout.now.arena.now c.args.layout.now.view.now c.args.layout.now.tokens.now c.tokens_of_line-tokens.result.now c.args.line.now c.token_at-token.result.now c.requires.ready.tell c.requires.some c.tokens_of_line-tokens.ensures c.token_at-token.ensures in
-    let none : slot_of c.args.plan.now c.token_at-token.result.now.id.0 ≡ None = sym c.slot.ensures ∙ none_of c.slot.result (sym c.is_some.ensures ∙ c.if-is_some.false) in
+    let none : slot_of c.args.plan.now c.token_at-token.result.now.id.0 ≡ None = open_told (slot_of c.args.plan.now c.token_at-token.result.now.id.0) c.is_decided.result c.is_decided.ensures c.if-is_decided.false in
     record {
       place = c.args.line.now.first;
       from = omega arith;
@@ -93,7 +93,7 @@ returns-clause-plan c =
     let tokens = c.tokens_of_line-tokens.result.now in
     let token = c.token_at-token.result.now in
     let inside = c.in-Some.ensures.inside in
-    let none : slot_of plan token.id.0 ≡ None = sym c.slot.ensures ∙ none_of c.slot.result (sym c.is_some.ensures ∙ c.if-is_some.false) in
+    let none : slot_of plan token.id.0 ≡ None = open_told (slot_of c.args.plan.now c.token_at-token.result.now.id.0) c.is_decided.result c.is_decided.ensures c.if-is_decided.false in
     let first : None ≡ fixed_of_token arena plan token = sym (ap (fixed_by arena token.id.0) none) in
     let number = first_number arena ids toks tokens line token c.requires.ready.tell c.requires.some c.tokens_of_line-tokens.ensures c.token_at-token.ensures in
     let row =

@@ -1,12 +1,13 @@
-use Rattle.std.proofs.Common.{inr, None, get_or, ◌≤◌, ◌≡◌, ◌∙◌, ◌<◌, ◌+◌, ◌-◌, suc, slice_get, refl, sym, ap, subst, arith, length}
+use Rattle.std.proofs.Common.{inr, None, get_or, ◌≤◌, ◌≡◌, ◌∙◌, ◌<◌, ◌+◌, ◌-◌, suc, slice_get, refl, ap, subst, arith, length}
 use Rattle.line_tokens.specs.declared.LineTok.{LineTok}
 use Rattle.line_tokens.specs.Columns.{end_of}
 use Rattle.line_tokens.specs.Tokens.{no_token}
 use Rattle.run_layout.specs.OneRow.{IsOneRowUpTo, open_behind, width_to}
-use Rattle.run_layout.proofs.ShortRows.{none_wait, one_waits, stand_more, width_more}
+use Rattle.run_layout.proofs.ShortRows.{none_wait, one_waits, open_told, stand_more, width_more}
 use Rattle.run_layout.proofs.RowSteps.{row_begins, row_begins_free, row_ends}
 use Rattle.std.proofs.lemmas.Option.{get_or_from_slice_get, slice_get_within}
-use Rattle.line_gaps.proofs.Inside.{inside_more, none_of}
+use Rattle.line_gaps.proofs.Inside.{inside_more}
+use Rattle.replacements.specs.Decisions.{slot_of}
 use Rattle.run_layout.proofs.RowBounds.{comment_ends, end_within, frames_within, goes_on_up_to}
 use Rattle.run_layout.proofs.row.short_row.Goals as goal
 
@@ -62,7 +63,7 @@ loop-at-preserved c =
           (ap (λ i. slice_get c.args.tokens.now i) next ∙ c.token_at-right.ensures) (stays c.args.style.now limit) places (omega (arith, fits, c.most_width-in-loop-at.ensures.first, c.from-in-loop-at.ensures))
           (omega (arith, v.from, c.loop-at-test.true, c.requires.few)) (omega (arith, c.most_width-in-loop-at.ensures.last, c.from-in-loop-at.ensures)));
       inside = inside_more c.args.plan.now c.args.tokens.now at c.token_at-right.result.now v.inside c.token_at-right.ensures
-          (sym c.slot.ensures ∙ none_of c.slot.result (sym c.is_some.ensures ∙ c.if-is_some.false));
+          (open_told (slot_of c.args.plan.now c.token_at-right.result.now.id.0) c.is_decided.result c.is_decided.ensures c.if-is_decided.false);
       stand = stand_more c.args.tokens.now at c.token_at-right.result.now v.stand c.token_at-right.ensures places;
       widths = width_more c.args.tokens.now (end_of (get_or c.args.tokens.now 0 no_token) c.args.column) at most (most + (1 + width)) c.token_at-right.result.now v.from c.token_at-right.ensures v.widths
           (omega (arith, c.most_width-in-loop-at.ensures.last, c.from-in-loop-at.ensures));
