@@ -9,7 +9,7 @@ use Rattle.line_tokens.specs.Columns.{end_of}
 use Rattle.replacements.specs.declared.slot.Slot.{Slot}
 use Rattle.replacements.specs.Decisions.{slot_of}
 use Rattle.comment_rows.specs.declared.comments.Comment.{Comment}
-use Rattle.comment_rows.specs.Comments.{column_behind, comment_at, comment_of, comments_behind, first_start, start_by}
+use Rattle.comment_rows.specs.Comments.{column_behind, comment_at, comment_of, comments_behind, comments_in, first_start, start_by}
 use Rattle.line_tokens.specs.Tokens.{no_token}
 use Rattle.comment_rows.proofs.CommentLists.{comments_more, drop_here}
 
@@ -61,3 +61,36 @@ module _ (style : Style) (plan : List (Option Slot)) (tokens : List LineTok) whe
       → now ++ comments_behind style plan (get_or tokens (suc n) no_token) (column_behind style plan tokens (suc n)) (drop (suc n + 1) tokens)
       ≡ before ++ comments_behind style plan (get_or tokens k no_token) (column_behind style plan tokens k) (drop (suc n) tokens)) back
       (after n before now below) made)
+
+  -- tokens that are none keep them
+  pub others_skipped : (from n : ℕ) → 1 ≤ from → from + n ≤ length tokens → ((i : ℕ) (d : LineTok) → from ≤ i → i < from + n → is_trailing (get_or tokens i d).role ≡ false)
+      → comments_behind style plan (get_or tokens (from - 1) no_token) (column_behind style plan tokens (from - 1)) (drop from tokens)
+      ≡ comments_behind style plan (get_or tokens (from + n - 1) no_token) (column_behind style plan tokens (from + n - 1)) (drop (from + n) tokens)
+  others_skipped from zero some within others =
+      let here : from + 0 ≡ from = omega arith in
+      rw here refl
+  others_skipped from (suc n) some within others =
+      let at : ℕ = from + n in
+      let next : from + suc n ≡ at + 1 = omega arith in
+      let below : at < length tokens = omega (arith, within) in
+      let token = get_or tokens at no_token in
+      let before = others_skipped from n some (omega (arith, within)) (λ i d low high. others i d low (omega (arith, high))) in
+      let none : [] ≡ [] ++ comment_at style plan (get_or tokens (at - 1) no_token) (column_behind style plan tokens (at - 1)) (get_or tokens at no_token) (drop (at + 1) tokens) =
+      none_kept token (get_or tokens (at - 1) no_token) at (column_behind style plan tokens (at - 1)) [] (drop (at + 1) tokens) (slice_get-get_or tokens at no_token below) (others at no_token (omega arith) (omega arith)) in
+      rw next (before ∙ sym (one_more at [] [] (omega (arith, some)) below none))
+
+  -- the same up to a later place
+  pub others_passed : (from end : ℕ) → 1 ≤ from → from ≤ end → end ≤ length tokens → ((i : ℕ) (d : LineTok) → from ≤ i → i < end → is_trailing (get_or tokens i d).role ≡ false)
+      → comments_behind style plan (get_or tokens (from - 1) no_token) (column_behind style plan tokens (from - 1)) (drop from tokens)
+      ≡ comments_behind style plan (get_or tokens (end - 1) no_token) (column_behind style plan tokens (end - 1)) (drop end tokens)
+  others_passed from end some order within others =
+      let e : from + (end - from) ≡ end = omega (arith, order) in
+      subst (λ m. comments_behind style plan (get_or tokens (from - 1) no_token) (column_behind style plan tokens (from - 1)) (drop from tokens)
+      ≡ comments_behind style plan (get_or tokens (m - 1) no_token) (column_behind style plan tokens (m - 1)) (drop m tokens)) e
+      (others_skipped from (end - from) some (omega (arith, order, within)) (λ i d low high. others i d low (omega (arith, order, high))))
+
+-- the comments of a view are those behind its first token
+pub comments_begun : (style : Style) (plan : List (Option Slot)) (tokens : List LineTok) → 0 < length tokens
+    → comments_behind style plan (get_or tokens (1 - 1) no_token) (column_behind style plan tokens (1 - 1)) (drop 1 tokens) ≡ comments_in style plan tokens
+comments_begun style plan [] some = absurd (omega (arith, some))
+comments_begun style plan (first ∷ tokens) some = refl

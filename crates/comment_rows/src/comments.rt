@@ -1,7 +1,7 @@
 //! The trailing comments of a view.
 
 ghost use Rattle.std.specs.Prelude.{◌≡◌, ◌+◌, ◌-◌, ◌++◌, ◌<◌, ◌≤◌, All, IfOk, IsSome, OnOk, Some, drop, get_or, length};
-ghost use Rattle.std.specs.Prelude.{map, slice_get, if◌then◌else◌, true};
+ghost use Rattle.std.specs.Prelude.{IsTrue, ℕ, false, map, slice_get, if◌then◌else◌, true};
 ghost use Rattle.std.specs.Bool.{OnFalse};
 ghost use Rattle.style_table.specs.Range.{IsInRange};
 ghost use Rattle.line_tokens.specs.declared.LineTok.{LineTok};
@@ -39,16 +39,68 @@ fn token_at(tokens: &[LineTok], at: usize) -> &LineTok
     &tokens[at]
 }
 
+/// Whether none of eight tokens from a place on is a trailing comment.
+#[inline(always)]
+fn are_eight_others(tokens: &[LineTok], first: usize) -> bool
+    requires { first + 8 ≤ length tokens.now }
+    ensures { IsTrue result → (i : ℕ) (d : LineTok) → first ≤ i → i < first + 8 →
+        is_trailing (get_or tokens.now i d).role ≡ false }
+{
+    for next in 0..8 {
+        if token_at(tokens, first + next).role.is_trailing() {
+            return false;
+        }
+    }
+    true
+}
+
+/// A place up to which no token from another place on is a trailing comment. They are looked at by eights, since that
+/// many take fewer steps at once than one by one.
+#[inline(always)]
+fn others_end(tokens: &[LineTok], from: usize) -> usize
+    requires { from ≤ length tokens.now }
+    ensures later { from ≤ result }
+    ensures within { result ≤ length tokens.now }
+    ensures others { (i : ℕ) (d : LineTok) → from ≤ i → i < result → is_trailing (get_or tokens.now i d).role ≡ false }
+{
+    let mut first = from;
+    while tokens.len() - first >= 8 {
+        if !are_eight_others(tokens, first) {
+            return first;
+        }
+        first += 8;
+    }
+    first
+}
+
+/// The place of the first trailing comment from a place on, or behind the last token.
+#[inline(never)]
+fn next_trailing(tokens: &[LineTok], from: usize) -> usize
+    requires { from ≤ length tokens.now }
+    ensures later { from ≤ result }
+    ensures within { result ≤ length tokens.now }
+    ensures others { (i : ℕ) (d : LineTok) → from ≤ i → i < result → is_trailing (get_or tokens.now i d).role ≡ false }
+{
+    for at in others_end(tokens, from)..tokens.len() {
+        if token_at(tokens, at).role.is_trailing() {
+            return at;
+        }
+    }
+    tokens.len()
+}
+
 /// Whether the gap before a trailing comment is open.
 fn has_open_comment(plan: &Plan<'_>, tokens: &[LineTok]) -> bool
     requires { All (λ token. token.id.0 < length plan.now) tokens.now }
     ensures { OnFalse result
         (All (λ token. is_trailing token.role ≡ true → IsSome (slot_of plan.now token.id.0)) tokens.now) }
 {
-    for token in tokens {
-        if token.role.is_trailing() && plan.slot(token.id.0).is_none() {
+    let mut at = next_trailing(tokens, 0);
+    while at < tokens.len() {
+        if !plan.is_decided(token_at(tokens, at).id.0) {
             return true;
         }
+        at = next_trailing(tokens, at + 1);
     }
     false
 }
@@ -182,8 +234,10 @@ fn comments_in<'r>(
         place: 0,
         column: end_of(first, first_start(plan.slot(first.id.0))),
     };
-    for at in 1..tokens.len() {
+    let mut at = next_trailing(tokens, 1);
+    while at < tokens.len() {
         keep_comment(style, plan, tokens, at, &mut known, &mut comments)?;
+        at = next_trailing(tokens, at + 1);
     }
     Ok(comments)
 }

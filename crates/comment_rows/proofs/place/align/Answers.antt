@@ -1,4 +1,4 @@
-use Rattle.std.proofs.Common.{◌≡◌, List, length, arith, sym, subst}
+use Rattle.std.proofs.Common.{List, arith, sym, subst}
 use Rattle.style_table.specs.declared.style.AlignTrailingCommentsKind.TheVariants.{Always, Never}
 use Rattle.comment_rows.specs.Columns.{StandRight}
 use Rattle.comment_rows.specs.declared.place.TrailRow.{TrailRow}

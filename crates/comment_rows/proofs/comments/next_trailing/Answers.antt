@@ -1,0 +1,12 @@
+use Rattle.std.proofs.Common.{◌∙◌, sym, arith}
+use Rattle.comment_rows.proofs.Others.{others_more}
+use Rattle.comment_rows.proofs.comments.next_trailing.Goals as goal
+
+pub loop-at-preserved : goal.loop-at-preserved
+loop-at-preserved c =
+    let v = c.loop-at.invariant in
+    record {
+      later = omega (arith, v.later);
+      within = omega (arith, c.loop-at-test.true);
+      others = others_more c.args.tokens.now c.args.from c.loop-at.at c.token_at.result.now c.token_at.ensures (sym c.is_trailing.ensures ∙ c.if-is_trailing.false) v.others;
+    }
