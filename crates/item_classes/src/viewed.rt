@@ -115,8 +115,8 @@ pub fn item_classes<'a>(
 {
     let count = arena.len();
     let classes = into_bump_slice_mut(vec![in bump; TokenClass::Nothing; count as usize]?);
-    for (number, class) in classes.iter_mut().enumerate() {
-        *class = item_class(arena, TokenId(number as u32), bump)?;
+    for id in 0..count {
+        classes[id as usize] = item_class(arena, TokenId(id), bump)?;
     }
     Ok(classes)
 }
