@@ -100,6 +100,24 @@ none_further arena frozen from at mark behind marked plain is passes none k low 
   | inr here ↦ rw here (passed_gap arena frozen at mark behind marked plain is passes)
 ]
 
+-- one more place is neither marked nor dead
+pub one_marked : (arena : Contents) (frozen : List Bool) (first next : ℕ) → get_or frozen (first + next) false ≡ false → is_dead_item arena (first + next) ≡ false
+    → ((k : ℕ) → first ≤ k → k < first + next → (get_or frozen k false ≡ false) × (is_dead_item arena k ≡ false))
+    → (k : ℕ) → first ≤ k → k < first + (next + 1) → (get_or frozen k false ≡ false) × (is_dead_item arena k ≡ false)
+one_marked arena frozen first next mark dead before k low high = elim (before_or (first + next) k (omega (arith, high))) [
+  | inl earlier ↦ before k low earlier
+  | inr same ↦ rw same (mark, dead)
+]
+
+-- nor a backslash
+pub one_other : (arena : Contents) (first next : ℕ) → is_backslash (slice_get arena.tokens (first + next)) ≡ false
+    → ((k : ℕ) → first ≤ k → k < first + next → is_backslash (slice_get arena.tokens k) ≡ false)
+    → (k : ℕ) → first ≤ k → k < first + (next + 1) → is_backslash (slice_get arena.tokens k) ≡ false
+one_other arena first next other before k low high = elim (before_or (first + next) k (omega (arith, high))) [
+  | inl earlier ↦ before k low earlier
+  | inr same ↦ rw same other
+]
+
 -- one more place is passed
 pub one_passed : (arena : Contents) (frozen : List Bool) (from at : ℕ) (mark : Bool) → mark ≡ get_or frozen at false → ((k : ℕ) → from ≤ k → k < at → Passes arena (get_or frozen k false) k) → Passes arena mark at
     → (k : ℕ) → from ≤ k → k < at + 1 → Passes arena (get_or frozen k false) k

@@ -82,12 +82,31 @@ pub(crate) fn is_plain(behind: Behind) -> bool
 
 /// Whether an item may be a backslash alone, as its class tells.
 #[inline(always)]
-fn may_be_backslash(arena: &TokenArena<'_, '_>, classes: &[TokenClass], id: u32) -> bool
+pub(crate) fn may_be_backslash(arena: &TokenArena<'_, '_>, classes: &[TokenClass], id: u32) -> bool
     requires all { classes.now ≡ item_classes arena.now }
     requires within { id < length arena.now.tokens }
     ensures { result ≡ false → is_backslash (slice_get arena.now.tokens id) ≡ false }
 {
     matches!(classes[id as usize], TokenClass::Other)
+}
+
+/// Whether an item stands in the group of a literal `#if 0`, or its gap is frozen, or this is so of one before it.
+#[inline(always)]
+pub(crate) fn stays_or(
+    arena: &TokenArena<'_, '_>,
+    tree: &CondTree<'_>,
+    frozen: bool,
+    place: u32,
+    stays: bool,
+) -> bool
+    requires tree { IsTreeOf arena.now tree.now }
+    requires within { place < length arena.now.tokens }
+    ensures before { result ≡ false → stays ≡ false }
+    ensures mark { result ≡ false → frozen ≡ false }
+    ensures dead { result ≡ false → is_dead_item arena.now place ≡ false }
+{
+    let dead = tree.is_dead(TokenId(place));
+    stays | frozen | dead
 }
 
 /// Whether no gap stays at a place behind a plain item, and the item there is plain too, as its class tells; its gap is

@@ -11,7 +11,9 @@ ghost use Rattle.early_gaps.specs.Dead.{IsTreeOf};
 ghost use Rattle.early_gaps.specs.Kept.{IsBehind, IsColumn, Passes, is_kept, kept_at};
 ghost use Rattle.early_gaps.specs.Made.{made_at, made_from};
 
-use crate::behind::{Behind, is_plain, next_behind, nothing_before, passes};
+use crate::behind::{
+    Behind, is_plain, may_be_backslash, next_behind, nothing_before, passes, stays_or,
+};
 use crate::columns::{InputColumn, column_from, first_column};
 use branch_runs::CondTree;
 use replacements::{Decision, Plan};
@@ -73,9 +75,16 @@ fn pass_eight(
     ensures { IsTrue result → (k : ℕ) → first ≤ k → k < first + 8 → Passes arena.now (get_or frozen.now k false) k }
 {
     let _count = arena.len();
+    let mut stays = false;
     for next in 0..8 {
         let at = first + next;
-        if !passes(arena, tree, classes, frozen[at as usize], at) {
+        stays = stays_or(arena, tree, frozen[at as usize], at, stays);
+    }
+    if stays {
+        return false;
+    }
+    for next in 0..8 {
+        if may_be_backslash(arena, classes, first + next) {
             return false;
         }
     }

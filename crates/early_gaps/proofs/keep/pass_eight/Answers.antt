@@ -1,7 +1,18 @@
-use Rattle.std.proofs.Common.{◌+◌, refl, arith}
-use Rattle.early_gaps.proofs.Staying.{one_passed}
+use Rattle.std.proofs.Common.{◌+◌, arith}
+use Rattle.early_gaps.proofs.Staying.{one_marked, one_other}
 use Rattle.early_gaps.proofs.keep.pass_eight.Goals as goal
 
 pub loop-next-preserved : goal.loop-next-preserved
-loop-next-preserved c = λ k low high.
-    one_passed c.args.arena.now c.args.frozen.now c.args.first (c.args.first + c.loop-next.next) _ refl c.loop-next.invariant (c.passes.ensures c.if-not-passes.false) k low (omega (arith, high))
+loop-next-preserved c = λ none.
+    let told = c.stays_or-stays.ensures in
+    one_marked c.args.arena.now c.args.frozen.now c.args.first c.loop-next.next (told.mark none) (told.dead none) (c.loop-next.invariant (told.before none))
+
+pub loop-next-2-preserved : goal.loop-next-2-preserved
+loop-next-2-preserved c = one_other c.args.arena.now c.args.first c.loop-next-2.next (c.may_be_backslash.ensures c.if-may_be_backslash.false) c.loop-next-2.invariant
+
+pub returns : goal.returns
+returns c = λ yes k low high. record {
+  mark = (c.loop-next.invariant c.if-stays.false k low (omega (arith, high, c.loop-next-test.false))).0;
+  dead = (c.loop-next.invariant c.if-stays.false k low (omega (arith, high, c.loop-next-test.false))).1;
+  backslash = c.loop-next-2.invariant k low (omega (arith, high, c.loop-next-2-test.false));
+}
