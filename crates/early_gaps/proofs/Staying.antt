@@ -1,15 +1,6 @@
 -- The gaps that stay, place by place.
-use Rattle.std.proofs.Common.{◌≡◌, ◌∙◌, ◌||◌, ◌&&◌, ℕ, zero, suc, ◌+◌, ◌-◌, ◌<◌, ◌≤◌, ◌⊎◌, inl, inr, Bool, true, false, Option, Some, None, List, [], ◌∷◌, length, get_or, refl, sym, ap, subst, arith}
+use Rattle.std.proofs.Common.{◌≡◌, ◌∙◌, ◌||◌, ℕ, zero, suc, ◌+◌, ◌-◌, ◌<◌, ◌≤◌, ◌⊎◌, inl, inr, Bool, true, false, Option, Some, None, List, [], ◌∷◌, length, get_or, refl, sym, ap, subst, arith}
 use Rattle.std.specs.Prelude.{if◌then◌else◌, slice_get}
-use Rattle.std.proofs.lemmas.List.{get_or-map}
-use Rattle.std.proofs.lemmas.Option.{slice_get-get_or}
-use Rattle.c_grammar.specs.Rewritten.{read_alone}
-use Rattle.c_grammar.specs.Touch.{is_other_kind}
-use Rattle.item_kinds.specs.declared.ItemKind.{ItemKind}
-use Rattle.token_classes.specs.declared.class.TokenClass.{TokenClass}
-use Rattle.token_classes.specs.declared.class.TokenClass.TheVariants.{Other}
-use Rattle.item_classes.specs.Items.{no_item}
-use Rattle.item_classes.specs.Viewed.{class_of, class_spelled, item_classes}
 use Rattle.token_arena.specs.Gaps.{Contents}
 use Rattle.token_arena.specs.Stored.{Stored}
 use Rattle.line_gaps.specs.InputColumns.{kept_slot}
@@ -157,28 +148,6 @@ passed_up_to arena frozen place end behind order plain is all =
     let e : place + (end - place) ≡ end = omega (arith, order) in
     let passed = passed_all arena frozen place (end - place) behind plain is (λ k low high. all k low (omega (arith, high, order))) in
     (subst (λ n. IsBehind arena n behind) e passed.0, λ k low high. passed.1 k low (omega (arith, high, order)))
-
--- ## Classes
-
--- an item whose class is another is no backslash
-by_kind : (kind : ItemKind) (s : List ℕ) (back : Bool) → (class_spelled kind s ≡ Other → ⊥) → (is_other_kind kind && back) ≡ false
-by_kind ItemKind.Identifier s back other = refl
-by_kind ItemKind.Number s back other = refl
-by_kind ItemKind.CharConst s back other = refl
-by_kind ItemKind.StringLit s back other = refl
-by_kind ItemKind.HeaderName s back other = refl
-by_kind ItemKind.Punct s back other = refl
-by_kind ItemKind.LineComment s back other = refl
-by_kind ItemKind.BlockComment s back other = refl
-by_kind ItemKind.StrayQuote s back other = refl
-by_kind ItemKind.Other s back other = absurd (other refl)
-
-pub no_backslash : (arena : Contents) (id : ℕ) (class : TokenClass) → id < length arena.tokens → class ≡ get_or (item_classes arena) id class → (class ≡ Other → ⊥) → is_backslash (slice_get arena.tokens id) ≡ false
-no_backslash arena id class within is other =
-    let token : Stored = get_or arena.tokens id no_item in
-    let told : class ≡ class_of arena.dialect token = is ∙ get_or-map (class_of arena.dialect) arena.tokens id no_item class within in
-    let here : slice_get arena.tokens id ≡ Some token = slice_get-get_or arena.tokens id no_item within in
-    rw here (by_kind token.kind (read_alone arena.dialect token.raw) token.back (λ same. other (told ∙ same)))
 
 -- where a gap doesn't stay, nothing is decided
 pub none_kept : (tab : ℕ) (arena : Contents) (frozen : List Bool) (place : ℕ) → is_kept arena frozen place ≡ false → kept_at tab arena frozen place ≡ None

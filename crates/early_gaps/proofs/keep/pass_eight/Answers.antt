@@ -1,4 +1,4 @@
-use Rattle.std.proofs.Common.{◌+◌, arith}
+use Rattle.std.proofs.Common.{arith}
 use Rattle.early_gaps.proofs.Staying.{one_marked, one_other}
 use Rattle.early_gaps.proofs.keep.pass_eight.Goals as goal
 
