@@ -13,7 +13,7 @@ use Rattle.replacements.specs.GapText.{blanks, indentation, level_columns, line_
 use Rattle.replacements.specs.declared.gap_text.Decision.{Decision}
 use Rattle.replacements.specs.declared.gap_text.Decision.TheVariants.{Lines, Spaces}
 use Rattle.replacements.specs.Guards.{guard_before, guard_of}
-use Rattle.replacements.specs.Same.{ComesNoHash, IsSame}
+use Rattle.replacements.specs.Same.{ComesNoHash, IsSame, IsWritten}
 use Rattle.replacements.specs.Stances.{hash_comes, stance_in}
 use Rattle.replacements.specs.Written.{bytes_between, decision_at, is_of_text, planned_gap, written_from}
 use Rattle.replacements.specs.declared.guard.Guard.TheVariants.{Free}
@@ -41,13 +41,13 @@ same_blanks style crlf arena at place count d t later is none gap = λ stance to
     rw (is, first, no_hash, gap) refl
 
 -- lines before an item that begins its line, behind one that needs no guard
-pub same_lines : (style : Style) (crlf : Bool) (arena : Contents) (at place count column level : ℕ) (t : Stored) → (place ≡ 0 → ⊥) → t.gap.began ≡ true → guard_before arena.tokens place ≡ Free
-    → bytes_between arena.text at t.start ≡ line_ends crlf count ++ indentation style (level_columns style level column) column → IsSame style crlf arena at place (Lines count column level) t
-same_lines style crlf arena at place count column level t later began guard gap = λ stance tokens.
+pub lines_written : (style : Style) (crlf : Bool) (arena : Contents) (place count column level : ℕ) (t : Stored) (piece : List ℕ) → (place ≡ 0 → ⊥) → t.gap.began ≡ true → guard_before arena.tokens place ≡ Free
+    → piece ≡ line_ends crlf count ++ indentation style (level_columns style level column) column → IsWritten style crlf arena place (Lines count column level) t piece
+lines_written style crlf arena place count column level t piece later began guard is = λ at stance tokens.
     let first : (place == 0) ≡ false = ne_eqb place 0 later in
     let none : hash_comes arena.dialect (t ∷ tokens) ≡ false = ap (λ b. not b && (if is_comment t.kind then hash_comes arena.dialect tokens else is_hash_token arena.dialect t)) began in
     let no_hash : (is_of_text stance && hash_comes arena.dialect (t ∷ tokens)) ≡ false = ap (λ b. is_of_text stance && b) none ∙ and_right (is_of_text stance) false refl in
-    rw (first, no_hash, guard, gap) refl
+    rw (first, no_hash, guard, is) refl
 
 -- a gap that is as it is decided is held with what is held before it
 pub held_same : (style : Style) (crlf : Bool) (arena : Contents) (at place held : ℕ) (stance : Stance) (d : Decision) (t : Stored) (ts : List Stored) → IsSame style crlf arena at place d t → held ≤ at → at ≤ t.start →

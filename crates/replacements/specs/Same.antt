@@ -14,6 +14,12 @@ use Rattle.replacements.specs.declared.stance.Stance.{Stance}
 abbrev pub ComesNoHash : Stored → Type 0
 ComesNoHash token = (d : Dialect) (tokens : List Stored) → hash_comes d (token ∷ tokens) ≡ false
 
+-- However the item stands in its text, and whatever comes then: what is written before it is these bytes.
+abbrev pub IsWritten : Style → Bool → Contents → ℕ → Decision → Stored → List ℕ → Type 0
+IsWritten style crlf arena place decision token bytes =
+    (at : ℕ) (stance : Stance) (tokens : List Stored)
+    → planned_gap style crlf arena (guard_before arena.tokens place) at place stance decision token tokens ≡ bytes
+
 -- However the item stands in its text, and whatever comes then: what is written before it is what the input has there,
 -- behind this offset.
 abbrev pub IsSame : Style → Bool → Contents → ℕ → ℕ → Decision → Stored → Type 0

@@ -1,14 +1,15 @@
 //! Gaps that the input has as they are decided.
 
-ghost use Rattle.std.specs.Prelude.{◌≡◌, ◌<◌, ◌≤◌, ℕ, Bool, true, length, IsTrue};
+ghost use Rattle.std.specs.Prelude.{◌≡◌, ◌<◌, ◌≤◌, Bool, true, length, IfSome, IsTrue};
 ghost use Rattle.c_grammar.specs.Fitting.{is_comment};
 ghost use Rattle.token_arena.specs.Gaps.{Stands};
 ghost use Rattle.replacements.specs.declared.gap_text.Decision.TheVariants.{Lines, Spaces};
 ghost use Rattle.style_table.specs.declared.style.Style.{Style};
 ghost use Rattle.token_arena.specs.Entries.{told_by};
-ghost use Rattle.replacements.specs.Same.{ComesNoHash, IsSame, standing};
+ghost use Rattle.replacements.specs.Same.{ComesNoHash, IsSame, IsWritten, standing};
 ghost use Rattle.replacements.specs.Written.{bytes_between, decision_at, is_old};
 
+use crate::entry::LineGap;
 use crate::guard::{guard_before, is_free};
 use crate::hash::begins_no_hash;
 use crate::plan::Plan;
@@ -117,46 +118,36 @@ pub(crate) fn has_same_blanks(
 
 /// Whether bytes are the same.
 #[inline(always)]
-fn are_equal(left: &[u8], right: &[u8]) -> bool
+pub(crate) fn are_equal(left: &[u8], right: &[u8]) -> bool
     ensures { IsTrue result → left.now ≡ right.now }
 {
     left == right
 }
 
-/// Whether lines that are decided before an item stand there in the input. No `#` comes where the item begins its line.
+/// The bytes that are written of lines that are decided before an item, whatever comes then. They are told where the
+/// item begins its line in the input, so that no `#` comes, behind an item that needs no guard, and for lines that are
+/// one piece. So it is before most items.
 #[inline(always)]
-pub(crate) fn are_same_lines(
+pub(crate) fn lines_piece(
     style: &Style,
     crlf: bool,
     arena: &TokenArena<'_, '_>,
-    at: usize,
     place: u32,
     token: &Token<'_>,
-    count: u32,
-    column: u32,
-) -> bool
-    requires later { at ≤ token.now.item.start }
-    requires within { token.now.item.start ≤ length arena.now.text }
-    requires here { place ≤ length arena.now.tokens }
-    ensures { IsTrue result → (level : ℕ) →
-        IsSame style.now crlf arena.now at place (Lines count column level) (told_by token.now) }
+    gap: LineGap,
+) -> Option<&'static [u8]>
+    requires { place ≤ length arena.now.tokens }
+    ensures { IfSome result (λ piece. IsWritten style.now crlf arena.now place (Lines gap.count gap.column gap.level)
+        (told_by token.now) piece.now) }
 {
-    if place == 0 {
-        return false;
+    if place == 0 || !token.gap.began {
+        return None;
     }
-    if token.gap.began {
-        return match short_lines(style, crlf, count, column) {
-            None => false,
-            Some(piece) => {
-                if are_equal(between(arena.text(), at, token.item.start as usize), piece) {
-                    is_free(guard_before(arena, place))
-                } else {
-                    false
-                }
-            }
-        };
+    if !is_free(guard_before(arena, place)) {
+        return None;
     }
-    false
+    let piece = short_lines(style, crlf, gap.count, gap.column)?;
+    Some(piece)
 }
 
 /// Whether the input's bytes stay in a gap, as in few that are decided.
@@ -168,8 +159,8 @@ fn stays(plan: &Plan<'_>, place: u32) -> bool
     matches!(decision_at(plan, place), Decision::Old)
 }
 
-/// Whether what is decided before an item stands there in the input, so that nothing has to be written. It does where
-/// the input's bytes stay.
+/// Whether blanks that are decided before an item stand there in the input, or its bytes stay, so that nothing has to be
+/// written.
 #[inline(always)]
 pub(crate) fn is_same(
     style: &Style,
@@ -192,9 +183,6 @@ pub(crate) fn is_same(
             return false;
         }
         return are_same_blanks(arena, at, place, token, count);
-    }
-    if let Some(gap) = plan.lines(place) {
-        return are_same_lines(style, crlf, arena, at, place, token, gap.count, gap.column);
     }
     stays(plan, place)
 }

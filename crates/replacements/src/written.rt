@@ -19,7 +19,7 @@ use crate::entry::LineGap;
 use crate::guard::{Guard, guard_before, guard_for, guard_text, guarded_ends, is_free};
 use crate::hash::{HashRun, hash_comes};
 use crate::plan::Plan;
-use crate::same::{are_same_lines, between, comes_no_hash, has_same_blanks, is_same};
+use crate::same::{are_equal, between, comes_no_hash, has_same_blanks, is_same, lines_piece};
 use crate::stance::{Stance, stance_at};
 use crate::{Decision, write_gap};
 use fmt_ports::{Failed, Sink, write_all};
@@ -228,6 +228,36 @@ fn write_anew<K: Sink>(
     Ok(())
 }
 
+/// Writes a piece that stands before an item, and what is held before that, unless the input has it there and it is held
+/// too.
+#[inline(always)]
+fn write_piece<K: Sink>(
+    text: &[u8],
+    at: usize,
+    held: &mut usize,
+    start: usize,
+    piece: &[u8],
+    sink: &mut K,
+) -> Result<(), Failed>
+    requires held { held.old ≤ at }
+    requires order { at ≤ start }
+    requires within { start ≤ length text.now }
+    ensures held { held.new ≤ start }
+    ensures ok { OnOk result ((written : List ℕ) × Appends (K.taken sink.old) (K.taken sink.new) written
+        × (bytes_between text.now held.old at ++ piece.now ≡ written ++ bytes_between text.now held.new start)) }
+    ensures part { AppendsPart (K.taken sink.old) (K.taken sink.new)
+        (bytes_between text.now held.old at ++ piece.now) }
+    ensures counts { Counts (K.faults sink.old) (K.faults sink.new) result }
+{
+    if are_equal(between(text, at, start), piece) {
+        return Ok(());
+    }
+    write_all(sink, between(text, *held, at))?;
+    write_all(sink, piece)?;
+    *held = start;
+    Ok(())
+}
+
 /// Writes lines that are decided before an item, and what is held before that, unless the input has them there and
 /// they are held too.
 #[inline(always)]
@@ -268,10 +298,9 @@ fn write_lines_before<K: Sink>(
         (drop (place + 1) arena.now.tokens)) }
     ensures counts { Counts (K.faults sink.old) (K.faults sink.new) result }
 {
-    if are_same_lines(
-        style, crlf, arena, walk.at, place, token, gap.count, gap.column,
-    ) {
-        return Ok(());
+    if let Some(piece) = lines_piece(style, crlf, arena, place, token, gap) {
+        let start = token.item.start as usize;
+        return write_piece(arena.text(), walk.at, &mut walk.held, start, piece, sink);
     }
     let decision = Decision::Lines {
         count: gap.count,

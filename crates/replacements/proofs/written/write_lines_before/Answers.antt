@@ -1,27 +1,14 @@
-use Rattle.std.proofs.Common.{◌+◌, [], refl, arith, drop, rules}
-use Rattle.std.proofs.KnownBytes.{Appends-nil}
-use Rattle.token_arena.specs.Entries.{told_by}
+use Rattle.std.proofs.Common.{◌+◌, drop}
 use Rattle.replacements.specs.Stances.{stance_in}
-use Rattle.replacements.specs.declared.gap_text.Decision.TheVariants.{Lines}
-use Rattle.replacements.proofs.SameGaps.{held_same}
 use Rattle.replacements.proofs.written.write_lines_before.Goals as goal
 
-pub returns-then-are_same_lines-clause-held : goal.returns-then-are_same_lines-clause-held
-returns-then-are_same_lines-clause-held g c = omega (arith, c.requires.held, c.requires.stands.later)
+pub returns-in-Some-clause-ok : goal.returns-in-Some-clause-ok
+returns-in-Some-clause-ok g c =
+    rw (c.in-Some.ensures c.args.walk.now.at (stance_in c.args.sections.now c.args.place) (drop (c.args.place + 1) c.args.arena.now.tokens)) (rw c.text.ensures at c.write_piece.ensures.ok)
 
-pub returns-then-are_same_lines-clause-ok : goal.returns-then-are_same_lines-clause-ok
-returns-then-are_same_lines-clause-ok g c =
-    let arena = c.args.arena.now in
-    let walk = c.args.walk.now in
-    let place = c.args.place in (
-      [],
-      Appends-nil _,
-      held_same c.args.style.now c.args.crlf arena walk.at place walk.held (stance_in c.args.sections.now place) (Lines c.args.gap.count c.args.gap.column c.args.gap.level) (told_by c.args.token.now) (drop (place + 1) arena.tokens)
-          (c.are_same_lines.ensures (search rules) c.args.gap.level) c.requires.held c.requires.stands.later,
-    )
-
-pub returns-then-are_same_lines-clause-part : goal.returns-then-are_same_lines-clause-part
-returns-then-are_same_lines-clause-part g c = ([], _, refl, Appends-nil _)
+pub returns-in-Some-clause-part : goal.returns-in-Some-clause-part
+returns-in-Some-clause-part g c =
+    rw (c.in-Some.ensures c.args.walk.now.at (stance_in c.args.sections.now c.args.place) (drop (c.args.place + 1) c.args.arena.now.tokens)) (rw c.text.ensures at c.write_piece.ensures.part)
 
 pub returns-clause-ok : goal.returns-clause-ok
 returns-clause-ok g c = c.write_anew.ensures.ok
