@@ -1,7 +1,8 @@
 -- The gaps inside a line, looked at one after another.
-use Rattle.std.proofs.Common.{◌≡◌, ◌∙◌, ◌<◌, ◌+◌, ◌⊎◌, inl, inr, ℕ, Option, Some, None, List, slice_get, false, refl}
+use Rattle.std.proofs.Common.{◌≡◌, ◌∙◌, ◌<◌, ◌+◌, ◌⊎◌, inl, inr, ℕ, Option, Some, None, List, Bool, slice_get, false, refl}
 use Rattle.std.proofs.Common.{sym, ap, arith}
-use Rattle.std.specs.Prelude.{is_some}
+use Rattle.std.specs.Prelude.{IsSome, IsTrue, ◌↔◌}
+use Rattle.std.proofs.lemmas.Bool.{false≢true}
 use Rattle.std.proofs.Math.Nat.{eq-or-lt_of_le}
 use Rattle.line_tokens.specs.declared.LineTok.{LineTok}
 use Rattle.replacements.specs.declared.slot.Slot.{Slot}
@@ -10,9 +11,10 @@ use Rattle.replacements.specs.Decisions.{slot_of}
 some_same : (a b : LineTok) → Some a ≡ Some b → a ≡ b
 some_same a b e = cc
 
-pub none_of : (o : Option Slot) → is_some o ≡ false → o ≡ None
-none_of (Some slot) e = cc
-none_of None e = refl
+-- a gap of which it isn't told that it is decided is open
+pub open_told : (o : Option Slot) (decided : Bool) → (IsTrue decided ↔ IsSome o) → decided ≡ false → o ≡ None
+open_told None decided told is = refl
+open_told (Some slot) decided told is = absurd (false≢true (sym is ∙ told.1 refl))
 
 -- one more token whose gap is open
 pub inside_more : (plan : List (Option Slot)) (tokens : List LineTok) (at : ℕ) (right : LineTok)

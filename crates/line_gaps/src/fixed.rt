@@ -21,7 +21,7 @@ fn are_eight_open(plan: &Plan<'_>, tokens: &[LineTok], first: usize) -> bool
         slot_of plan.now (get_or tokens.now i d).id.0 ≡ None }
 {
     for at in first..first + 8 {
-        if plan.slot(token_at(tokens, at).id.0).is_some() {
+        if plan.is_decided(token_at(tokens, at).id.0) {
             return false;
         }
     }
@@ -54,7 +54,7 @@ fn are_open(plan: &Plan<'_>, tokens: &[LineTok], front: usize) -> bool
     ensures { IsTrue result → All (λ token. slot_of plan.now token.id.0 ≡ None) tokens.now }
 {
     for at in front..tokens.len() {
-        if plan.slot(token_at(tokens, at).id.0).is_some() {
+        if plan.is_decided(token_at(tokens, at).id.0) {
             return false;
         }
     }

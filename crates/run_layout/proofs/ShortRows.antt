@@ -1,8 +1,7 @@
 -- The columns of a short row, and what stands behind it.
-use Rattle.std.proofs.Common.{◌≡◌, ◌∙◌, ◌⊎◌, inl, inr, ℕ, zero, suc, ◌+◌, ◌-◌, ◌<◌, ◌≤◌, Bool, true, false, Option, Some, None, List}
+use Rattle.std.proofs.Common.{◌≡◌, ◌∙◌, ◌⊎◌, inl, inr, ℕ, zero, suc, ◌+◌, ◌-◌, ◌<◌, ◌≤◌, Bool, true, false, Some, List}
 use Rattle.std.proofs.Common.{[], ◌∷◌, length, drop, refl, sym, ap, arith, subst, slice_get}
-use Rattle.std.specs.Prelude.{All, IsSome, IsTrue, ◌↔◌, if◌then◌else◌}
-use Rattle.std.proofs.lemmas.Bool.{false≢true}
+use Rattle.std.specs.Prelude.{All, if◌then◌else◌}
 use Rattle.std.proofs.Math.Nat.{eq-or-lt_of_le}
 use Rattle.std.proofs.lemmas.List.{drop_all}
 use Rattle.std.proofs.lemmas.Option.{get_or_from_slice_get}
@@ -101,8 +100,3 @@ stand_more tokens at right before here stands i token some within is = by_place 
     by_place : (i ≡ at) ⊎ (i < at) → is_trailing token.role ≡ false
     by_place (inl same) = ap (λ (t : LineTok). is_trailing t.role) (some_same token right (sym is ∙ (ap (slice_get tokens) same ∙ here))) ∙ stands
     by_place (inr less) = before i token some less is
-
--- a gap of which it isn't told that it is decided is open
-pub open_told : (o : Option Slot) (decided : Bool) → (IsTrue decided ↔ IsSome o) → decided ≡ false → o ≡ None
-open_told None decided told is = refl
-open_told (Some slot) decided told is = absurd (false≢true (sym is ∙ told.1 refl))

@@ -3,7 +3,7 @@ use Rattle.std.proofs.lemmas.Option.{slice_get_within}
 use Rattle.replacements.specs.Breaks.{fixed_by}
 use Rattle.replacements.specs.Decisions.{slot_of}
 use Rattle.line_gaps.specs.Fixed.{fixed_of_token}
-use Rattle.run_layout.proofs.ShortRows.{open_told}
+use Rattle.line_gaps.proofs.Inside.{open_told}
 use Rattle.run_layout.proofs.LineOutcomes.{length_some}
 use Rattle.run_layout.proofs.RowLines.{tokens_within, first_number, row_here, row_plan}
 use Rattle.run_layout.proofs.lines.lay_out_short_row.Goals as goal

@@ -3,10 +3,10 @@ use Rattle.line_tokens.specs.declared.LineTok.{LineTok}
 use Rattle.line_tokens.specs.Columns.{end_of}
 use Rattle.line_tokens.specs.Tokens.{no_token}
 use Rattle.run_layout.specs.OneRow.{IsOneRowUpTo, open_behind, width_to}
-use Rattle.run_layout.proofs.ShortRows.{none_wait, one_waits, open_told, stand_more, width_more}
+use Rattle.run_layout.proofs.ShortRows.{none_wait, one_waits, stand_more, width_more}
 use Rattle.run_layout.proofs.RowSteps.{row_begins, row_begins_free, row_ends}
 use Rattle.std.proofs.lemmas.Option.{get_or_from_slice_get, slice_get_within}
-use Rattle.line_gaps.proofs.Inside.{inside_more}
+use Rattle.line_gaps.proofs.Inside.{inside_more, open_told}
 use Rattle.replacements.specs.Decisions.{slot_of}
 use Rattle.run_layout.proofs.RowBounds.{comment_ends, end_within, frames_within, goes_on_up_to}
 use Rattle.run_layout.proofs.row.short_row.Goals as goal
