@@ -31,3 +31,4 @@ pub mod Rewritten
 pub mod FirstMark
 pub mod Breaking
 pub mod StandingBlanks
+pub mod CommentBytes

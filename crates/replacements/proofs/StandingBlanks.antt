@@ -1,8 +1,8 @@
 -- Blanks that stand in the input, told by the first byte behind the item before them.
-use Rattle.std.proofs.Common.{◌≡◌, ◌∙◌, ◌<◌, ◌+◌, ◌-◌, ◌==◌, ◌⊎◌, ◌&&◌, inl, inr, ℕ, Bool, true, false, not, List, ◌∷◌, [], length, take, drop, get_or, refl, ap, arith, eqb-true, map}
+use Rattle.std.proofs.Common.{◌≡◌, ◌∙◌, ◌<◌, ◌+◌, ◌-◌, ◌==◌, ◌⊎◌, ◌&&◌, ◌||◌, inl, inr, ℕ, Bool, true, false, not, List, ◌∷◌, [], length, take, drop, get_or, refl, ap, arith, eqb-true, map}
 use Rattle.std.specs.Prelude.{if◌then◌else◌}
 use Rattle.std.specs.List.{range_with_len}
-use Rattle.std.proofs.lemmas.Bool.{and_right}
+use Rattle.std.proofs.lemmas.Bool.{and_right, or_parts}
 use Rattle.std.proofs.Math.Seq.{drop-cons}
 use Rattle.std.proofs.lemmas.List.{get_or-map, get_or-take, get_or-drop}
 use Rattle.std.proofs.lemmas.List.FromFn.{get_or-range_with_len, length-range_with_len}
@@ -11,30 +11,30 @@ use Rattle.c_grammar.specs.Touch.{is_punct}
 use Rattle.token_arena.specs.Stored.{Stored}
 use Rattle.token_arena.specs.Gaps.{Stands}
 use Rattle.replacements.specs.GapText.{blanks}
-use Rattle.replacements.specs.Same.{ComesNoHash, standing}
+use Rattle.replacements.specs.Same.{ComesNoHash, blanks_told}
 use Rattle.replacements.specs.Stances.{may_begin_hash, SpellsNoHash}
 use Rattle.replacements.specs.Written.{bytes_between}
 use Rattle.replacements.proofs.Hashes.{first_no_hash}
 
 -- what is told of each byte
-pub standing_told : (b : ℕ) → b < 256 → get_or (map standing (range_with_len 0 256)) b 0 ≡ standing b
-standing_told b h =
+pub each_told : (b : ℕ) → b < 256 → get_or (map blanks_told (range_with_len 0 256)) b 0 ≡ blanks_told b
+each_told b h =
     let len = length-range_with_len 0 256 in
     let same : 0 + b ≡ b = omega arith in
-    get_or-map standing (range_with_len 0 256) b 0 0 (omega (arith, len, h)) ∙ (ap standing (get_or-range_with_len 0 256 b 0 h) ∙ ap standing same)
+    get_or-map blanks_told (range_with_len 0 256) b 0 0 (omega (arith, len, h)) ∙ (ap blanks_told (get_or-range_with_len 0 256 b 0 h) ∙ ap blanks_told same)
 
 by_tests : (blank hash : Bool) (count : ℕ) → (if blank then 2 else if hash then 0 else 1) ≡ count + 1 → ((count ≡ 1) × (blank ≡ true)) ⊎ ((count ≡ 0) × (hash ≡ false))
 by_tests true hash count e = inl (omega (arith, e), refl)
 by_tests false true count e = absurd (omega (arith, e))
 by_tests false false count e = inr (omega (arith, e), refl)
 
--- a blank, or a byte that spells no `#`
-pub one_or_none : (b count : ℕ) → standing b ≡ count + 1 → ((count ≡ 1) × (b ≡ 32)) ⊎ ((count ≡ 0) × (may_begin_hash b ≡ false))
-one_or_none b count e = told (by_tests (b == 32) (may_begin_hash b) count e)
+-- a blank, or a byte that begins neither a comment nor what spells a `#`
+pub one_or_none : (b count : ℕ) → blanks_told b ≡ count + 1 → ((count ≡ 1) × (b ≡ 32)) ⊎ ((count ≡ 0) × (may_begin_hash b ≡ false) × ((b == 47) ≡ false))
+one_or_none b count e = told (by_tests (b == 32) (may_begin_hash b || b == 47) count e)
   where
-    told : ((count ≡ 1) × ((b == 32) ≡ true)) ⊎ ((count ≡ 0) × (may_begin_hash b ≡ false)) → ((count ≡ 1) × (b ≡ 32)) ⊎ ((count ≡ 0) × (may_begin_hash b ≡ false))
+    told : ((count ≡ 1) × ((b == 32) ≡ true)) ⊎ ((count ≡ 0) × ((may_begin_hash b || b == 47) ≡ false)) → ((count ≡ 1) × (b ≡ 32)) ⊎ ((count ≡ 0) × (may_begin_hash b ≡ false) × ((b == 47) ≡ false))
     told (inl h) = inl (h.0, eqb-true b 32 h.1)
-    told (inr h) = inr h
+    told (inr h) = let parts = or_parts (may_begin_hash b) (b == 47) h.1 in inr (h.0, parts.0, parts.1)
 
 -- no `#` comes where an item is no comment and spells none
 pub comes_none : (t : Stored) → is_comment t.kind ≡ false → SpellsNoHash t.raw → ComesNoHash t

@@ -1,5 +1,5 @@
 -- Decided gaps that the input has as they are decided.
-use Rattle.std.specs.Prelude.{◌≡◌, ◌==◌, ℕ, Bool, false, List, ◌∷◌, if◌then◌else◌}
+use Rattle.std.specs.Prelude.{◌≡◌, ◌==◌, ◌||◌, ℕ, Bool, false, List, ◌∷◌, if◌then◌else◌}
 use Rattle.c_chars.specs.declared.Dialect.{Dialect}
 use Rattle.token_arena.specs.Stored.{Stored}
 use Rattle.token_arena.specs.Gaps.{Contents}
@@ -29,6 +29,6 @@ IsSame style crlf arena at place decision token =
     ≡ bytes_between arena.text at token.start
 
 -- one more than the blanks that stand before an item behind this byte, the first behind the item before it: one blank
--- where it is a blank, and none where it spells no `#`
-abbrev pub standing : ℕ → ℕ
-standing b = if b == 32 then 2 else if may_begin_hash b then 0 else 1
+-- where it is a blank, and none where it begins neither a comment nor what spells a `#`
+abbrev pub blanks_told : ℕ → ℕ
+blanks_told b = if b == 32 then 2 else if may_begin_hash b || b == 47 then 0 else 1

@@ -1,12 +1,12 @@
 //! Gaps that the input has as they are decided.
 
 ghost use Rattle.std.specs.Prelude.{◌≡◌, ◌<◌, ◌≤◌, Bool, true, length, IfSome, IsTrue};
-ghost use Rattle.c_grammar.specs.Fitting.{is_comment};
 ghost use Rattle.token_arena.specs.Gaps.{Stands};
 ghost use Rattle.replacements.specs.declared.gap_text.Decision.TheVariants.{Lines, Spaces};
 ghost use Rattle.style_table.specs.declared.style.Style.{Style};
 ghost use Rattle.token_arena.specs.Entries.{told_by};
-ghost use Rattle.replacements.specs.Same.{ComesNoHash, IsSame, IsWritten, standing};
+ghost use Rattle.replacements.specs.Stances.{IsAt};
+ghost use Rattle.replacements.specs.Same.{ComesNoHash, IsSame, IsWritten, blanks_told};
 ghost use Rattle.replacements.specs.Written.{bytes_between, decision_at, is_old};
 
 use crate::entry::LineGap;
@@ -42,11 +42,12 @@ pub(crate) fn comes_no_hash(token: &Token<'_>) -> bool
     }
 }
 
-/// Of each byte, two for a blank and one where no `#` may be spelled from it on, and otherwise none. That is one more
-/// than the blanks that stand in a gap of at most one byte, where the byte is the first behind the item before it.
-const STANDING: [u8; 256] = [
+/// Of each byte, two for a blank, one where neither a comment nor what spells a `#` may begin with it, and otherwise
+/// none. That is one more than the blanks that stand in a gap of at most one byte, where the byte is the first behind the
+/// item before it.
+const BLANKS_TOLD: [u8; 256] = [
     1, 1, 1, 1, 1, 1, 1, 1, 1, 1, 1, 1, 1, 0, 1, 1, 1, 1, 1, 1, 1, 1, 1, 1, 1, 1, 1, 1, 1, 1, 1, 1,
-    2, 1, 1, 0, 1, 0, 1, 1, 1, 1, 1, 1, 1, 1, 1, 1, 1, 1, 1, 1, 1, 1, 1, 1, 1, 1, 1, 1, 1, 1, 1, 0,
+    2, 1, 1, 0, 1, 0, 1, 1, 1, 1, 1, 1, 1, 1, 1, 0, 1, 1, 1, 1, 1, 1, 1, 1, 1, 1, 1, 1, 1, 1, 1, 0,
     1, 1, 1, 1, 1, 1, 1, 1, 1, 1, 1, 1, 1, 1, 1, 1, 1, 1, 1, 1, 1, 1, 1, 1, 1, 1, 1, 1, 0, 1, 1, 1,
     1, 1, 1, 1, 1, 1, 1, 1, 1, 1, 1, 1, 1, 1, 1, 1, 1, 1, 1, 1, 1, 1, 1, 1, 1, 1, 1, 1, 1, 1, 1, 1,
     1, 1, 1, 1, 1, 1, 1, 1, 1, 1, 1, 1, 1, 1, 1, 1, 1, 1, 1, 1, 1, 1, 1, 1, 1, 1, 1, 1, 1, 1, 1, 1,
@@ -55,18 +56,12 @@ const STANDING: [u8; 256] = [
     1, 1, 1, 1, 1, 1, 1, 1, 1, 1, 1, 1, 1, 1, 1, 1, 1, 1, 1, 1, 1, 1, 1, 1, 1, 1, 1, 1, 1, 1, 1, 1,
 ];
 
-/// What [`STANDING`] tells of a byte.
+/// What [`BLANKS_TOLD`] tells of a byte.
 #[inline(always)]
-fn standing(byte: u8) -> u8
-    ensures { result ≡ standing byte }
+fn blanks_told(byte: u8) -> u8
+    ensures { result ≡ blanks_told byte }
 {
-    STANDING[byte as usize]
-}
-
-fn is_comment(kind: ItemKind) -> bool
-    ensures { result ≡ is_comment kind }
-{
-    matches!(kind, ItemKind::BlockComment | ItemKind::LineComment)
+    BLANKS_TOLD[byte as usize]
 }
 
 /// Whether so many blanks that are decided before an item stand there in the input; told for up to one, as most are.
@@ -81,18 +76,17 @@ fn are_same_blanks(
     count: u32,
 ) -> bool
     requires later { 0 < place }
+    requires here { IsAt arena.now.tokens place (told_by token.now) }
     requires stands { Stands arena.now.text at (told_by token.now) }
     ensures { IsTrue result → (style : Style) (crlf : Bool) →
         IsSame style crlf arena.now at place (Spaces count) (told_by token.now) }
 {
+    let _items = arena.len();
     if token.item.start as usize - at != count as usize {
         return false;
     }
-    if is_comment(token.item.kind) && count == 0 {
-        return false;
-    }
     let byte = arena.text()[at];
-    usize::from(standing(byte)) == count as usize + 1
+    usize::from(blanks_told(byte)) == count as usize + 1
 }
 
 /// Whether blanks are decided before an item behind another, and stand there in the input.
@@ -106,6 +100,7 @@ pub(crate) fn has_same_blanks(
 ) -> bool
     requires whole { place < length plan.now }
     requires later { 0 < place }
+    requires here { IsAt arena.now.tokens place (told_by token.now) }
     requires stands { Stands arena.now.text at (told_by token.now) }
     ensures { IsTrue result → (style : Style) (crlf : Bool) →
         IsSame style crlf arena.now at place (decision_at plan.now place) (told_by token.now) }
@@ -172,6 +167,7 @@ pub(crate) fn is_same(
     plan: &Plan<'_>,
 ) -> bool
     requires whole { place < length plan.now }
+    requires item { IsAt arena.now.tokens place (told_by token.now) }
     requires stands { Stands arena.now.text at (told_by token.now) }
     requires here { place ≤ length arena.now.tokens }
     ensures same { IsTrue result →

@@ -27,6 +27,7 @@ has_same_blanks-requires c =
       whole = omega (arith, c.requires.whole, c.len-count.ensures.count, c.loop-next-test.true);
       stands = rw c.loop-next.invariant.at (stands_at arena.text (mark_len arena.text) arena.tokens c.loop-next.next token c.len-count.ensures.stand c.get-token.ensures);
       later = omega (arith, c.requires.behind, c.loop-next.invariant.later);
+      here = c.get-token.ensures;
     }
 
 pub loop-next-preserved : goal.loop-next-preserved
