@@ -1,4 +1,4 @@
-use Rattle.std.proofs.Common.{◌≡◌, ◌==◌, ◌<◌, ◌+◌, ◌-◌, ◌∙◌, ◌⊎◌, eqb-true, inl, inr, Bool, true, false, length, get_or, ap, refl, sym, arith}
+use Rattle.std.proofs.Common.{◌≡◌, ◌==◌, ◌<◌, ◌+◌, ◌-◌, ◌∙◌, ◌⊎◌, eqb-true, inl, inr, Bool, false, length, get_or, ap, refl, sym, arith}
 use Rattle.style_table.specs.declared.style.Style.{Style}
 use Rattle.token_arena.specs.Entries.{told_by}
 use Rattle.replacements.specs.declared.gap_text.Decision.TheVariants.{Spaces}
