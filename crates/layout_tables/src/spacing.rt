@@ -130,7 +130,7 @@ fn by_table(style: &Style, left: &LineTok, right: &LineTok) -> u8
 /// The rows of the table fall into ten groups, in order. This is the first one of which a row may hold behind a token
 /// with this role, whatever follows.
 #[inline(always)]
-fn group_behind(left: Role) -> u8
+fn group_behind(left: Role) -> usize
     ensures is { result ≡ group_behind left }
     ensures few { result ≤ 9 }
 {
@@ -154,7 +154,7 @@ fn group_behind(left: Role) -> u8
 /// The first group of which a row may hold before a token with this role, whatever stands before it. That is 0 where
 /// the roles don't tell the blanks.
 #[inline(always)]
-fn group_before(right: Role) -> u8
+fn group_before(right: Role) -> usize
     ensures is { result ≡ group_before right }
     ensures few { result ≤ 9 }
 {
@@ -240,7 +240,7 @@ impl RowBlanks {
         ensures few { result ≤ 16 }
     {
         let group = group_behind(left.role).min(group_before(right.role));
-        let blanks = self.of_group[group as usize];
+        let blanks = self.of_group[group];
         if blanks > 1 {
             return by_rows(style, left, right);
         }
