@@ -43,8 +43,8 @@ pub(crate) fn comes_no_hash(token: &Token<'_>) -> bool
 }
 
 /// Of each byte, two for a blank, one where neither a comment nor what spells a `#` may begin with it, and otherwise
-/// none. That is one more than the blanks that stand in a gap of at most one byte, where the byte is the first behind the
-/// item before it.
+/// none. That is one more than the blanks that stand in a gap of at most one byte, where the byte is the first behind
+/// the item before it.
 const BLANKS_TOLD: [u8; 256] = [
     1, 1, 1, 1, 1, 1, 1, 1, 1, 1, 1, 1, 1, 0, 1, 1, 1, 1, 1, 1, 1, 1, 1, 1, 1, 1, 1, 1, 1, 1, 1, 1,
     2, 1, 1, 0, 1, 0, 1, 1, 1, 1, 1, 1, 1, 1, 1, 0, 1, 1, 1, 1, 1, 1, 1, 1, 1, 1, 1, 1, 1, 1, 1, 0,
@@ -154,8 +154,8 @@ fn stays(plan: &Plan<'_>, place: u32) -> bool
     matches!(decision_at(plan, place), Decision::Old)
 }
 
-/// Whether blanks that are decided before an item stand there in the input, or its bytes stay, so that nothing has to be
-/// written.
+/// Whether blanks that are decided before an item stand there in the input, or its bytes stay, so that nothing has to
+/// be written.
 #[inline(always)]
 pub(crate) fn is_same(
     style: &Style,

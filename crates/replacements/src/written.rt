@@ -228,8 +228,8 @@ fn write_anew<K: Sink>(
     Ok(())
 }
 
-/// Writes a piece that stands before an item, and what is held before that, unless the input has it there and it is held
-/// too.
+/// Writes a piece that stands before an item, and what is held before that, unless the input has it there and it is
+/// held too.
 #[inline(always)]
 fn write_piece<K: Sink>(
     text: &[u8],
@@ -428,9 +428,9 @@ fn first_offset(arena: &TokenArena<'_, '_>) -> usize
     if arena.mark() { MARK.len() } else { 0 }
 }
 
-/// Passes items from a place on, which isn't the first, as long as blanks are decided before each and stand there in the
-/// input, so that they are copied in one stretch. The place of the first other item, or behind the last one; `at` is
-/// moved to its gap.
+/// Passes items from a place on, which isn't the first, as long as blanks are decided before each and stand there in
+/// the input, so that they are copied in one stretch. The place of the first other item, or behind the last one; `at`
+/// is moved to its gap.
 #[inline(never)]
 fn pass_blanks(arena: &TokenArena<'_, '_>, plan: &Plan<'_>, place: u32, at: &mut usize) -> u32
     requires whole { length plan.now ≡ length arena.now.tokens + 1 }
