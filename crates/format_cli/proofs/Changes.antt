@@ -2,7 +2,7 @@
 use Rattle.std.proofs.Common.{◌≡◌, ◌⊎◌, ◌∙◌, ◌↔◌, ◌||◌, ◌&&◌, ℕ, Bool, true, false, List, [], ◌∷◌, IsTrue, refl, subst, sym, inl, inr}
 use Rattle.std.proofs.lemmas.Bool.{false≢true}
 use Rattle.command_words.specs.declared.read.Words.{Words}
-use Rattle.format_cli.specs.declared.input.Options.{Options}
+use Rattle.format_cli.specs.Options.{Options}
 use Rattle.format_cli.specs.declared.input.Place.{Place}
 use Rattle.format_cli.specs.Account.{Answers, WouldFail, outcome_of, outcome_status}
 use Rattle.format_cli.specs.Inputs.{AreDoneWith, Ends, IsDoneWith}

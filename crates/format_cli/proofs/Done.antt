@@ -11,7 +11,7 @@ use Rattle.run_layout.specs.declared.report.Report.{Report}
 use Rattle.command_refusals.specs.declared.refusal.Refusal.{Refusal}
 use Rattle.command_refusals.specs.declared.refusal.Refusal.TheVariants.{BadWords, BadLines, BadStates, NoInput, ManyFiles, BadGenerate, GenerateBeside, UnknownStyle, LongConfiguration, BadConfiguration, TooLarge, OpenComment, SourceFailed, FileFailed, OutFailed, NotesFailed, Missing, NoMemory}
 use Rattle.command_refusals.specs.InForce.{IsHeld}
-use Rattle.format_cli.specs.declared.input.Options.{Options}
+use Rattle.format_cli.specs.Options.{Options}
 use Rattle.format_cli.specs.declared.input.Place.{Place}
 use Rattle.format_cli.specs.declared.input.Place.TheVariants.{Output, Itself, Nowhere}
 use Rattle.format_cli.specs.Inputs.{Ends, ends, rows_told, FilePutFails, FilePuts, IsDoneWith, IsFileRefused, IsFormatted, IsSourceCause, IsSourceRefused, IsTextCause, IsTextRefused, IsTextTold, IsTold, PutFails, Puts}

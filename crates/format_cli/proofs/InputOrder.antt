@@ -13,7 +13,7 @@ use Rattle.command_refusals.specs.InForce.{IsHeld}
 use Rattle.command_refusals.specs.Notes.{status_of}
 use Rattle.command_refusals.specs.Order.{IsThere, Tells}
 use Rattle.command_refusals.proofs.StyleOrder.{EndsSo}
-use Rattle.format_cli.specs.declared.input.Options.{Options}
+use Rattle.format_cli.specs.Options.{Options}
 use Rattle.format_cli.specs.declared.input.Place.{Place}
 use Rattle.format_cli.specs.declared.input.Place.TheVariants.{Output, Itself, Nowhere}
 use Rattle.format_cli.specs.Generated.{IsGeneratedRefused}

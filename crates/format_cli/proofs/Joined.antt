@@ -4,7 +4,7 @@ use Rattle.std.specs.List.{concat}
 use Rattle.std.proofs.KnownBytes.{Appends-trans}
 use Rattle.fmt_ports.specs.Files.{Held, KeepsAll}
 use Rattle.command_refusals.specs.InForce.{IsHeld}
-use Rattle.format_cli.specs.declared.input.Options.{Options}
+use Rattle.format_cli.specs.Options.{Options}
 use Rattle.format_cli.specs.declared.input.Place.TheVariants.{Output}
 use Rattle.format_cli.specs.Inputs.{rows_told}
 use Rattle.format_cli.specs.Joined.{AreFormatted, OutputsAreJoined}

@@ -18,7 +18,7 @@ use Rattle.command_refusals.specs.InForce.{IsHeld, IsMissing}
 use Rattle.command_refusals.specs.Notes.{status_of}
 use Rattle.command_refusals.specs.Words.{AreWordsRefused}
 use Rattle.command_refusals.proofs.Statuses.{style_not}
-use Rattle.format_cli.specs.declared.input.Options.{Options}
+use Rattle.format_cli.specs.Options.{Options}
 use Rattle.std.specs.Borrow.{Bor}
 use Rattle.command_words.specs.declared.read.StyleChoice.{StyleChoice}
 use Rattle.command_words.specs.declared.read.StyleChoice.TheVariants.{FileAt}

@@ -8,7 +8,7 @@ use Rattle.style_table.specs.declared.style.Style.{Style}
 use Rattle.command_words.specs.declared.read.Words.{Words}
 use Rattle.command_refusals.specs.declared.refusal.Refusal.{Refusal}
 use Rattle.command_refusals.specs.declared.refusal.Refusal.TheVariants.{BadWords, BadLines, BadStates, NoInput, ManyFiles, BadGenerate, GenerateBeside, UnknownStyle, LongConfiguration, BadConfiguration, TooLarge, OpenComment, SourceFailed, FileFailed, OutFailed, NotesFailed, Missing, NoMemory}
-use Rattle.format_cli.specs.declared.input.Options.{Options}
+use Rattle.format_cli.specs.Options.{Options}
 use Rattle.format_cli.specs.declared.input.Place.{Place}
 use Rattle.format_cli.specs.declared.input.Place.TheVariants.{Output, Itself, Nowhere}
 use Rattle.format_cli.specs.Account.{IsNotPerformed, IsPerformed, World, files_of, options_of, place_of}

@@ -17,7 +17,7 @@ use Rattle.command_refusals.specs.Notes.{row_of, status_of}
 use Rattle.command_refusals.specs.Words.{AreWordsRefused}
 use Rattle.format_cli.specs.declared.command.Outcome.{Outcome}
 use Rattle.format_cli.specs.declared.command.Outcome.TheVariants.{Done, WouldChange}
-use Rattle.format_cli.specs.declared.input.Options.{Options}
+use Rattle.format_cli.specs.Options.{Options}
 use Rattle.format_cli.specs.declared.input.Place.{Place}
 use Rattle.format_cli.specs.declared.input.Place.TheVariants.{Output, Itself, Nowhere}
 use Rattle.format_cli.specs.Generated.{IsGeneratedDone, IsGeneratedRefused, text_of}

@@ -6,7 +6,7 @@ use Rattle.command_words.specs.declared.pieces.Generate.{Generate}
 use Rattle.command_words.specs.Generated.{generated}
 use Rattle.command_refusals.specs.declared.refusal.Refusal.{Refusal}
 use Rattle.command_refusals.specs.declared.refusal.Refusal.TheVariants.{NotesFailed}
-use Rattle.format_cli.specs.declared.input.Options.{Options}
+use Rattle.format_cli.specs.Options.{Options}
 use Rattle.format_cli.specs.declared.input.Place.TheVariants.{Nowhere}
 use Rattle.format_cli.specs.Inputs.{IsFormatted, IsTextCause, rows_told}
 

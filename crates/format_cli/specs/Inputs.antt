@@ -18,7 +18,7 @@ use Rattle.command_refusals.specs.declared.refusal.Refusal.{Refusal}
 use Rattle.command_refusals.specs.declared.refusal.Refusal.TheVariants.{TooLarge, OpenComment, SourceFailed, FileFailed}
 use Rattle.command_refusals.specs.declared.refusal.Refusal.TheVariants.{OutFailed, NotesFailed, Missing, NoMemory}
 use Rattle.command_refusals.specs.InForce.{IsHeld, IsLonger, IsMissing}
-use Rattle.format_cli.specs.declared.input.Options.{Options}
+use Rattle.format_cli.specs.Options.{Options}
 use Rattle.format_cli.specs.Notes.{input_rows}
 use Rattle.format_cli.specs.declared.input.Place.{Place}
 use Rattle.format_cli.specs.declared.input.Place.TheVariants.{Output, Itself, Nowhere}

@@ -4,7 +4,7 @@ use Rattle.std.specs.List.{concat}
 use Rattle.std.specs.Io.KnownBytes.{Appends}
 use Rattle.fmt_ports.specs.Files.{Held}
 use Rattle.command_refusals.specs.InForce.{IsHeld}
-use Rattle.format_cli.specs.declared.input.Options.{Options}
+use Rattle.format_cli.specs.Options.{Options}
 use Rattle.format_cli.specs.declared.input.Place.TheVariants.{Output}
 use Rattle.format_cli.specs.Inputs.{AreDone, Ends, IsFormatted, rows_told}
 

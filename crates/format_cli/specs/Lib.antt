@@ -1,3 +1,4 @@
+pub mod Options
 pub mod Notes
 pub mod Inputs
 pub mod Generated

@@ -1,12 +1,14 @@
 //! The inputs: each is read, formatted and put in its place.
 
-ghost use Rattle.std.specs.Prelude.{◌≡◌, ◌≤◌, ◌||◌, IfErr, IfOk, OnOk, map, not};
-ghost use Rattle.fmt_ports.specs.Causes.{Counts};
+ghost use Rattle.std.specs.Prelude.{◌≡◌, ◌≤◌, ◌||◌, IfErr, IfOk, map, not};
+ghost use Rattle.std.specs.Io.KnownBytes.{Appends};
+ghost use Rattle.fmt_ports.specs.Causes.{AppendsPart};
 ghost use Rattle.fmt_ports.specs.Files.{KeepsAll, KeepsOthers};
 ghost use Rattle.c_grammar.specs.Grammar.{is_same};
 ghost use Rattle.style_table.specs.Range.{IsInRange};
 ghost use Rattle.format_core.specs.TextOf.{text_of as laid_text};
 ghost use Rattle.command_refusals.specs.Counts.{Counted, Faults};
+ghost use Rattle.format_cli.specs.Options.{values_of};
 ghost use Rattle.format_cli.specs.Generated.{IsGeneratedDoneWith, IsGeneratedRefused, text_of};
 ghost use Rattle.command_refusals.specs.InForce.{IsHeld};
 ghost use Rattle.format_cli.specs.Inputs.{AreDoneWith, AreRefused, FilePutFails, FilePuts, IsDoneWith, IsFileCause};
@@ -26,12 +28,12 @@ use std::alloc::{AllocError, Global};
 use style_table::Style;
 
 /// How texts are formatted.
-#[derive(Drop)]
-pub struct Options {
+#[derive(Clone, Copy)]
+pub struct Options<'o> {
     /// The style in force.
-    pub style: Style,
+    pub style: &'o Style,
     /// The lines that are asked for, all where there are no ranges.
-    pub ranges: Option<Ranges>,
+    pub ranges: Option<&'o Ranges>,
     /// How many cells the search of a line may have.
     pub budget: u64,
 }
@@ -51,14 +53,14 @@ pub enum Place {
 fn formatted<'a, 's, 'w>(
     alloc: Global,
     bump: &'a Bump,
-    options: &Options,
+    options: &Options<'_>,
     name: &'w str,
     text: &'s [u8],
 ) -> Result<Formatted<'a, 's>, Refusal<'w>>
-    requires range { IsInRange options.now.style }
+    requires range { IsInRange options.now.style.now }
     requires budget { options.now.budget ≤ 16000000 }
     ensures formats { IfOk result (λ made.
-        (is : IsFormatted options.now text.now (laid_text made.laid)) × (made.reports.now ≡ is.reports)
+        (is : IsFormatted (values_of options.now) text.now (laid_text made.laid)) × (made.reports.now ≡ is.reports)
         × (made.counts ≡ is.counts)) }
     ensures changed { IfOk result (λ made. made.changed ≡ not (is_same (laid_text made.laid) text.now)) }
     ensures refused { IfErr result (IsTextCause name.entry.now text.now) }
@@ -67,9 +69,9 @@ fn formatted<'a, 's, 'w>(
     let job = Job {
         budget: options.budget,
         dialect: Dialect::C11,
-        ranges: options.ranges.as_ref(),
+        ranges: options.ranges,
     };
-    match format(alloc, bump, text, &options.style, &job) {
+    match format(alloc, bump, text, options.style, &job) {
         Ok(formatted) => Ok(formatted),
         Err(FormatFault::UnterminatedComment { start }) => Err(Refusal::OpenComment {
             input: name,
@@ -84,20 +86,20 @@ fn formatted<'a, 's, 'w>(
 fn format_and_tell<'a, 's, 'w, E: Sink>(
     alloc: Global,
     bump: &'a Bump,
-    options: &Options,
+    options: &Options<'_>,
     place: Place,
     name: &'w str,
     text: &'s [u8],
     notes: &mut E,
 ) -> Result<Formatted<'a, 's>, Refusal<'w>>
-    requires range { IsInRange options.now.style }
+    requires range { IsInRange options.now.style.now }
     requires budget { options.now.budget ≤ 16000000 }
     ensures told { IfOk result (λ made.
-        IsTextTold options.now place name.entry.now text.now (laid_text made.laid) (E.taken notes.old)
+        IsTextTold (values_of options.now) place name.entry.now text.now (laid_text made.laid) (E.taken notes.old)
         (E.taken notes.new)) }
     ensures changed { IfOk result (λ made. made.changed ≡ not (is_same (laid_text made.laid) text.now)) }
     ensures refused { IfErr result
-        (IsTextRefused options.now place name.entry.now text.now (E.taken notes.old) (E.taken notes.new)) }
+        (IsTextRefused (values_of options.now) place name.entry.now text.now (E.taken notes.old) (E.taken notes.new)) }
     ensures counts { (f : Faults) →
         Counted (record f { notes = E.faults notes.old }) (record f { notes = E.faults notes.new }) result }
 {
@@ -123,22 +125,43 @@ fn read_source<S: Source>(alloc: Global, source: &mut S) -> Result<Vec<u8>, Refu
     }
 }
 
-/// Writes the formatted text of standard input, or in a dry run nothing.
-fn put_source<'a, 's, K: Sink>(
+/// Writes a formatted text to the output. The answer is whether the text changes.
+fn write_text<K: Sink>(
+    alloc: Global,
+    formatted: &Formatted<'_, '_>,
+    out: &mut K,
+) -> Result<bool, Refusal<'static>>
+    ensures done { IfOk result (λ changes. (changes ≡ formatted.now.changed)
+        × Appends (K.taken out.old) (K.taken out.new) (laid_text formatted.now.laid)) }
+    ensures refused { IfErr result (λ refusal. (refusal ≡ Refusal.OutFailed)
+        × AppendsPart (K.taken out.old) (K.taken out.new) (laid_text formatted.now.laid)) }
+    ensures counts { (f : Faults) →
+        Counted (record f { out = K.faults out.old }) (record f { out = K.faults out.new }) result }
+{
+    match formatted.write(alloc, out) {
+        Ok(()) => Ok(formatted.changed),
+        Err(Failed) => Err(Refusal::OutFailed),
+    }
+}
+
+/// Writes the formatted text of standard input, or in a dry run nothing. The answer is whether the text changes.
+fn put_source<K: Sink>(
     alloc: Global,
     place: Place,
-    formatted: &Formatted<'a, 's>,
+    formatted: &Formatted<'_, '_>,
     out: &mut K,
-) -> Result<(), Failed>
-    ensures ok { OnOk result (SourcePuts place (laid_text formatted.now.laid) (K.taken out.old) (K.taken out.new)) }
-    ensures part { IfErr result
-        (λ _. SourcePutFails place (laid_text formatted.now.laid) (K.taken out.old) (K.taken out.new)) }
-    ensures counts { Counts (K.faults out.old) (K.faults out.new) result }
+) -> Result<bool, Refusal<'static>>
+    ensures done { IfOk result (λ changes. (changes ≡ formatted.now.changed)
+        × SourcePuts place (laid_text formatted.now.laid) (K.taken out.old) (K.taken out.new)) }
+    ensures refused { IfErr result (λ refusal. (refusal ≡ Refusal.OutFailed)
+        × SourcePutFails place (laid_text formatted.now.laid) (K.taken out.old) (K.taken out.new)) }
+    ensures counts { (f : Faults) →
+        Counted (record f { out = K.faults out.old }) (record f { out = K.faults out.new }) result }
 {
     match place {
-        Place::Output => formatted.write(alloc, out),
-        Place::Itself => formatted.write(alloc, out),
-        Place::Nowhere => Ok(()),
+        Place::Output => write_text(alloc, formatted, out),
+        Place::Itself => write_text(alloc, formatted, out),
+        Place::Nowhere => Ok(formatted.changed),
     }
 }
 
@@ -146,18 +169,18 @@ fn put_source<'a, 's, K: Sink>(
 /// whether its text changes.
 pub fn format_source<S: Source, K: Sink, E: Sink>(
     alloc: Global,
-    options: &Options,
+    options: &Options<'_>,
     place: Place,
     source: &mut S,
     out: &mut K,
     notes: &mut E,
 ) -> Result<bool, Refusal<'static>>
-    requires range { IsInRange options.now.style }
+    requires range { IsInRange options.now.style.now }
     requires budget { options.now.budget ≤ 16000000 }
     ensures done { IfOk result (λ changes.
-        IsSourceDoneWith options.now place (S.left source.old) (K.taken out.old) (K.taken out.new) (E.taken notes.old)
-        (E.taken notes.new) changes) }
-    ensures refused { IfErr result (IsSourceRefused options.now place (S.left source.old) (K.taken out.old)
+        IsSourceDoneWith (values_of options.now) place (S.left source.old) (K.taken out.old) (K.taken out.new)
+        (E.taken notes.old) (E.taken notes.new) changes) }
+    ensures refused { IfErr result (IsSourceRefused (values_of options.now) place (S.left source.old) (K.taken out.old)
         (K.taken out.new) (E.taken notes.old) (E.taken notes.new)) }
     ensures counts { (f : Faults) →
         Counted (record f { source = S.faults source.old; out = K.faults out.old; notes = E.faults notes.old })
@@ -166,26 +189,23 @@ pub fn format_source<S: Source, K: Sink, E: Sink>(
     let text = read_source(alloc, source)?;
     let bump = Bump::new(alloc);
     let made = format_and_tell(alloc, &bump, options, place, STANDARD_INPUT, &text, notes)?;
-    match put_source(alloc, place, &made, out) {
-        Ok(()) => Ok(made.changed),
-        Err(Failed) => Err(Refusal::OutFailed),
-    }
+    put_source(alloc, place, &made, out)
 }
 
 /// Formats the text that `--generate` makes: tells its reports and its summary, and writes no text. The answer is
 /// whether the text changes.
 pub fn format_generated<E: Sink>(
     alloc: Global,
-    options: &Options,
+    options: &Options<'_>,
     generate: Generate,
     notes: &mut E,
 ) -> Result<bool, Refusal<'static>>
-    requires range { IsInRange options.now.style }
+    requires range { IsInRange options.now.style.now }
     requires budget { options.now.budget ≤ 16000000 }
     ensures done { IfOk result (λ changes.
-        IsGeneratedDoneWith options.now (text_of generate) (E.taken notes.old) (E.taken notes.new) changes) }
+        IsGeneratedDoneWith (values_of options.now) (text_of generate) (E.taken notes.old) (E.taken notes.new) changes) }
     ensures refused { IfErr result
-        (IsGeneratedRefused options.now (text_of generate) (E.taken notes.old) (E.taken notes.new)) }
+        (IsGeneratedRefused (values_of options.now) (text_of generate) (E.taken notes.old) (E.taken notes.new)) }
     ensures counts { (f : Faults) →
         Counted (record f { notes = E.faults notes.old }) (record f { notes = E.faults notes.new }) result }
 {
@@ -224,15 +244,15 @@ fn read_file<'w, F: Files>(name: &'w str, files: &mut F) -> Result<Vec<u8>, Refu
     }
 }
 
-/// Writes a file back: its text is made in memory for that.
+/// Writes a file back: its text is made in memory for that. The answer is whether the text changes.
 fn write_back<'w, F: Files>(
     alloc: Global,
     name: &'w str,
     formatted: &Formatted<'_, '_>,
     files: &mut F,
-) -> Result<(), Refusal<'w>>
-    ensures done { IfOk result (λ _.
-        IsHeld (F.holds files.new) name.entry.now (laid_text formatted.now.laid)
+) -> Result<bool, Refusal<'w>>
+    ensures done { IfOk result (λ changes. (changes ≡ formatted.now.changed)
+        × IsHeld (F.holds files.new) name.entry.now (laid_text formatted.now.laid)
         × KeepsOthers name.entry.now (F.holds files.old) (F.holds files.new)) }
     ensures refused { IfErr result (IsWriteRefused name.entry.now (F.holds files.old) (F.holds files.new)) }
     ensures counts { (f : Faults) →
@@ -244,7 +264,7 @@ fn write_back<'w, F: Files>(
         Err(AllocError) => return Err(Refusal::NoMemory),
     };
     match files.write(name, &text) {
-        Ok(()) => Ok(()),
+        Ok(()) => Ok(formatted.changed),
         Err(FileFault::NoMemory) => Err(Refusal::NoMemory),
         Err(FileFault::Failed) => Err(Refusal::FileFailed(name)),
         Err(FileFault::Missing) => Err(Refusal::Missing(name)),
@@ -253,7 +273,7 @@ fn write_back<'w, F: Files>(
 }
 
 /// Puts the formatted text of a FILE in its place, or in a dry run nowhere. A text that stays as it was isn't written
-/// back.
+/// back. The answer is whether the text changes.
 fn put_file<'w, K: Sink, F: Files>(
     alloc: Global,
     place: Place,
@@ -261,9 +281,9 @@ fn put_file<'w, K: Sink, F: Files>(
     formatted: &Formatted<'_, '_>,
     out: &mut K,
     files: &mut F,
-) -> Result<(), Refusal<'w>>
-    ensures done { IfOk result (λ _.
-        FilePuts place name.entry.now (laid_text formatted.now.laid) formatted.now.changed (K.taken out.old)
+) -> Result<bool, Refusal<'w>>
+    ensures done { IfOk result (λ changes. (changes ≡ formatted.now.changed)
+        × FilePuts place name.entry.now (laid_text formatted.now.laid) formatted.now.changed (K.taken out.old)
         (K.taken out.new) (F.holds files.old) (F.holds files.new)) }
     ensures refused { IfErr result
         (FilePutFails place name.entry.now (laid_text formatted.now.laid) formatted.now.changed (K.taken out.old)
@@ -273,20 +293,17 @@ fn put_file<'w, K: Sink, F: Files>(
         (record f { out = K.faults out.new; files = F.faults files.new; misses = F.misses files.new }) result }
 {
     match place {
-        Place::Output => match formatted.write(alloc, out) {
-            Ok(()) => Ok(()),
-            Err(Failed) => Err(Refusal::OutFailed),
-        },
+        Place::Output => write_text(alloc, formatted, out),
         Place::Itself => {
             if formatted.changed {
                 write_back(alloc, name, formatted, files)
             } else {
-                Ok(())
+                Ok(false)
             }
         }
         Place::Nowhere => {
             // A dry run puts nothing anywhere.
-            Ok(())
+            Ok(formatted.changed)
         }
     }
 }
@@ -295,19 +312,20 @@ fn put_file<'w, K: Sink, F: Files>(
 /// stays as it was isn't written back. The answer is whether its text changes.
 fn format_file<'w, K: Sink, E: Sink, F: Files>(
     alloc: Global,
-    options: &Options,
+    options: &Options<'_>,
     place: Place,
     name: &'w str,
     out: &mut K,
     notes: &mut E,
     files: &mut F,
 ) -> Result<bool, Refusal<'w>>
-    requires range { IsInRange options.now.style }
+    requires range { IsInRange options.now.style.now }
     requires budget { options.now.budget ≤ 16000000 }
     ensures done { IfOk result (λ changes.
-        IsDoneWith options.now place name.entry.now (ends (K.taken out.old) (F.holds files.old) (E.taken notes.old))
+        IsDoneWith (values_of options.now) place name.entry.now
+        (ends (K.taken out.old) (F.holds files.old) (E.taken notes.old))
         (ends (K.taken out.new) (F.holds files.new) (E.taken notes.new)) changes) }
-    ensures refused { IfErr result (IsFileRefused options.now place name.entry.now
+    ensures refused { IfErr result (IsFileRefused (values_of options.now) place name.entry.now
         (ends (K.taken out.old) (F.holds files.old) (E.taken notes.old))
         (ends (K.taken out.new) (F.holds files.new) (E.taken notes.new))) }
     ensures counts { (f : Faults) →
@@ -326,8 +344,7 @@ fn format_file<'w, K: Sink, E: Sink, F: Files>(
     let text = read_file(name, files)?;
     let bump = Bump::new(alloc);
     let made = format_and_tell(alloc, &bump, options, place, name, &text, notes)?;
-    put_file(alloc, place, name, &made, out, files)?;
-    Ok(made.changed)
+    put_file(alloc, place, name, &made, out, files)
 }
 
 /// Whether some text changes, one of those before or the one here.
@@ -341,20 +358,20 @@ fn some_changes(before: bool, here: bool) -> bool
 /// changes.
 pub fn format_files<'w, K: Sink, E: Sink, F: Files>(
     alloc: Global,
-    options: &Options,
+    options: &Options<'_>,
     place: Place,
     names: &[&'w str],
     out: &mut K,
     notes: &mut E,
     files: &mut F,
 ) -> Result<bool, Refusal<'w>>
-    requires range { IsInRange options.now.style }
+    requires range { IsInRange options.now.style.now }
     requires budget { options.now.budget ≤ 16000000 }
     ensures done { IfOk result (λ changes.
-        AreDoneWith options.now place (map (λ name. name.now) names.now)
+        AreDoneWith (values_of options.now) place (map (λ name. name.now) names.now)
         (ends (K.taken out.old) (F.holds files.old) (E.taken notes.old))
         (ends (K.taken out.new) (F.holds files.new) (E.taken notes.new)) changes) }
-    ensures refused { IfErr result (AreRefused options.now place (map (λ name. name.now) names.now)
+    ensures refused { IfErr result (AreRefused (values_of options.now) place (map (λ name. name.now) names.now)
         (ends (K.taken out.old) (F.holds files.old) (E.taken notes.old))
         (ends (K.taken out.new) (F.holds files.new) (E.taken notes.new))) }
     ensures counts { (f : Faults) →

@@ -1,8 +1,11 @@
-use Rattle.std.proofs.Common.{◌≡◌, ◌≢◌, ◌∙◌, ℕ, List, [], None, Some, ap, map, refl, sym, inl, inr}
+use Rattle.std.proofs.Common.{◌≡◌, ◌≢◌, ◌∙◌, ℕ, List, [], IfOk, None, Some, ap, map, refl, subst, sym, inl, inr}
 use Rattle.std.specs.declared.option.Option.{Option}
 use Rattle.std.specs.Borrow.{Bor}
 use Rattle.command_refusals.proofs.Results.{err_map, ok_follows}
-use Rattle.format_cli.specs.Account.{files_of}
+use Rattle.off_regions.specs.declared.range.LineRange.{LineRange}
+use Rattle.format_cli.specs.Account.{files_of, place_of}
+use Rattle.format_cli.specs.Generated.{IsGeneratedDoneWith, text_of}
+use Rattle.format_cli.specs.Inputs.{IsSourceDoneWith}
 use Rattle.format_cli.proofs.Changes.{none_changes}
 use Rattle.format_cli.proofs.Ends.{keeps_all_self, keeps_self}
 use Rattle.format_cli.proofs.Rest.{none_of, some_of}
@@ -33,13 +36,15 @@ pub returns-in-Some-clause-done : goal.returns-in-Some-clause-done
 returns-in-Some-clause-done g c =
     ok_follows _ _ c.format_generated.result
     (λ changes k. (inr (inr (inr (c.if-said.false, record { generate = c.in-Some.generate; given = c.in-Some.is; done = k.0; taken = keeps_self _; held = keeps_all_self _; left = refl }))), k.1))
-    c.format_generated.ensures.done
+    (subst (λ (ranges : Option (List LineRange)).
+    IfOk c.format_generated.result (IsGeneratedDoneWith (record { style = c.args.style.now; ranges = ranges; budget = c.args.said.now.budget }) (text_of c.in-Some.generate) (g.E.Sink.taken c.args.notes.now) (g.E.Sink.taken c.format_generated.new.notes)))
+    c.as_ref.ensures.value c.format_generated.ensures.done)
 
 pub returns-in-Some-clause-refused : goal.returns-in-Some-clause-refused
 returns-in-Some-clause-refused g c =
     err_map _ _ c.format_generated.result
     (λ refusal k. inr (inr (inr (c.if-said.false, record { generate = c.in-Some.generate; given = c.in-Some.is; refused = k; taken = keeps_self _; held = keeps_all_self _; left = refl }))))
-    c.format_generated.ensures.refused
+    (rw c.as_ref.ensures.value at c.format_generated.ensures.refused)
 
 pub returns-in-Some-clause-counts : goal.returns-in-Some-clause-counts
 returns-in-Some-clause-counts g c = λ f.
@@ -47,17 +52,20 @@ returns-in-Some-clause-counts g c = λ f.
 
 pub returns-then-is_empty-clause-done : goal.returns-then-is_empty-clause-done
 returns-then-is_empty-clause-done g c =
-    let none : files_of c.args.said ≡ [] = ap (map (λ (name : Bor (List ℕ)). name.now)) (none_of c.args.said.files.items c.args.said.files.len c.args.said.files.ok.0 (sym c.is_empty.ensures ∙ c.if-is_empty.true)) in
+    let none : files_of c.args.said.now ≡ [] = ap (map (λ (name : Bor (List ℕ)). name.now)) (none_of c.args.said.now.files.items c.args.said.now.files.len c.args.said.now.files.ok.0 (sym c.is_empty.ensures ∙ c.if-is_empty.true)) in
     ok_follows _ _ c.format_source.result
     (λ changes k. (inr (inl (c.if-said.false, none, record { done = k.0; held = keeps_all_self _ }, not_some _ c.in_default.not-Some)), k.1))
-    (rw c.place_of-place.ensures at c.format_source.ensures.done)
+    (subst (λ (ranges : Option (List LineRange)).
+    IfOk c.format_source.result (IsSourceDoneWith (record { style = c.args.style.now; ranges = ranges; budget = c.args.said.now.budget }) (place_of c.args.said.now.dry_run c.args.said.now.in_place) (g.S.Source.left c.args.source.now) (g.K.Sink.taken c.args.out.now) (g.K.Sink.taken c.format_source.new.out)
+    (g.E.Sink.taken c.args.notes.now) (g.E.Sink.taken c.format_source.new.notes)))
+    c.as_ref.ensures.value (rw c.place_of-place.ensures at c.format_source.ensures.done))
 
 pub returns-then-is_empty-clause-refused : goal.returns-then-is_empty-clause-refused
 returns-then-is_empty-clause-refused g c =
-    let none : files_of c.args.said ≡ [] = ap (map (λ (name : Bor (List ℕ)). name.now)) (none_of c.args.said.files.items c.args.said.files.len c.args.said.files.ok.0 (sym c.is_empty.ensures ∙ c.if-is_empty.true)) in
+    let none : files_of c.args.said.now ≡ [] = ap (map (λ (name : Bor (List ℕ)). name.now)) (none_of c.args.said.now.files.items c.args.said.now.files.len c.args.said.now.files.ok.0 (sym c.is_empty.ensures ∙ c.if-is_empty.true)) in
     err_map _ _ c.format_source.result
     (λ refusal k. inr (inl (c.if-said.false, none, record { refused = k; held = keeps_all_self _ }, not_some _ c.in_default.not-Some)))
-    (rw c.place_of-place.ensures at c.format_source.ensures.refused)
+    (rw (c.as_ref.ensures.value, c.place_of-place.ensures) at c.format_source.ensures.refused)
 
 pub returns-then-is_empty-clause-counts : goal.returns-then-is_empty-clause-counts
 returns-then-is_empty-clause-counts g c = λ f.
@@ -68,14 +76,14 @@ returns-clause-counts g c = λ f. c.format_files.ensures.counts (record f { sour
 
 pub returns-clause-done : goal.returns-clause-done
 returns-clause-done g c =
-    let some : files_of c.args.said ≢ [] = some_of c.args.said.files.items c.args.said.files.len _ c.args.said.files.ok.0 (sym c.is_empty.ensures ∙ c.if-is_empty.false) in
+    let some : files_of c.args.said.now ≢ [] = some_of c.args.said.now.files.items c.args.said.now.files.len _ c.args.said.now.files.ok.0 (sym c.is_empty.ensures ∙ c.if-is_empty.false) in
     ok_follows _ _ c.format_files.result
     (λ changes k. (inr (inr (inl (c.if-said.false, record { some = some; done = k.0; left = refl }))), k.1))
-    (rw c.deref.ensures.value at (rw c.place_of-place.ensures at c.format_files.ensures.done))
+    (rw (c.as_ref.ensures.value, c.deref.ensures.value, c.place_of-place.ensures) at c.format_files.ensures.done)
 
 pub returns-clause-refused : goal.returns-clause-refused
 returns-clause-refused g c =
-    let some : files_of c.args.said ≢ [] = some_of c.args.said.files.items c.args.said.files.len _ c.args.said.files.ok.0 (sym c.is_empty.ensures ∙ c.if-is_empty.false) in
+    let some : files_of c.args.said.now ≢ [] = some_of c.args.said.now.files.items c.args.said.now.files.len _ c.args.said.now.files.ok.0 (sym c.is_empty.ensures ∙ c.if-is_empty.false) in
     err_map _ _ c.format_files.result
     (λ refusal k. inr (inr (inl (c.if-said.false, record { some = some; refused = k; left = refl }))))
-    (rw c.deref.ensures.value at (rw c.place_of-place.ensures at c.format_files.ensures.refused))
+    (rw (c.as_ref.ensures.value, c.deref.ensures.value, c.place_of-place.ensures) at c.format_files.ensures.refused)

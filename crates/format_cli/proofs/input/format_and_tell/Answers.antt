@@ -1,5 +1,6 @@
 use Rattle.std.proofs.Common.{inl, refl}
 use Rattle.format_core.specs.TextOf.{text_of}
+use Rattle.format_cli.specs.Options.{values_of}
 use Rattle.format_cli.proofs.Done.{text_told, text_untold}
 use Rattle.format_cli.proofs.Ends.{keeps_self}
 use Rattle.format_cli.proofs.Rest.{passed}
@@ -18,7 +19,7 @@ returns-in_err-formatted-clause-counts g c = λ f.
 pub returns-in-Ok-clause-told : goal.returns-in-Ok-clause-told
 returns-in-Ok-clause-told g c =
     let made = c.in_ok-formatted.formatted in
-    text_told c.args.options.now c.args.place c.args.name.now c.args.text.now (text_of made.laid) made.reports.now made.counts made.changed _ _ c.in_ok-formatted.ensures.formats c.in_ok-formatted.ensures.changed c.in-Ok.ensures.ok
+    text_told (values_of c.args.options.now) c.args.place c.args.name.now c.args.text.now (text_of made.laid) made.reports.now made.counts made.changed _ _ c.in_ok-formatted.ensures.formats c.in_ok-formatted.ensures.changed c.in-Ok.ensures.ok
 
 pub returns-in-Ok-clause-changed : goal.returns-in-Ok-clause-changed
 returns-in-Ok-clause-changed g c = c.in_ok-formatted.ensures.changed
@@ -30,7 +31,7 @@ returns-in-Ok-clause-counts g c = λ f.
 pub returns-clause-refused : goal.returns-clause-refused
 returns-clause-refused g c =
     let made = c.in_ok-formatted.formatted in
-    text_untold c.args.options.now c.args.place c.args.name.now c.args.text.now (text_of made.laid) made.reports.now made.counts made.changed _ _ c.in_ok-formatted.ensures.formats c.in_ok-formatted.ensures.changed c.in-Err.ensures.part
+    text_untold (values_of c.args.options.now) c.args.place c.args.name.now c.args.text.now (text_of made.laid) made.reports.now made.counts made.changed _ _ c.in_ok-formatted.ensures.formats c.in_ok-formatted.ensures.changed c.in-Err.ensures.part
 
 pub returns-clause-counts : goal.returns-clause-counts
 returns-clause-counts g c = λ f.

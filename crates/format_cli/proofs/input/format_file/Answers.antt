@@ -1,7 +1,8 @@
-use Rattle.std.proofs.Common.{ap, inl}
-use Rattle.command_refusals.proofs.Counts.{raises_after, same_after}
+use Rattle.std.proofs.Common.{inl}
+use Rattle.command_refusals.proofs.Counts.{counted_after, raises_after, same_after}
+use Rattle.command_refusals.proofs.Results.{err_map, ok_follows}
 use Rattle.format_core.specs.TextOf.{text_of}
-use Rattle.format_core.specs.declared.formatted.Formatted.{Formatted}
+use Rattle.format_cli.specs.Options.{values_of}
 use Rattle.format_cli.proofs.Done.{file_cut, file_done, file_untold}
 use Rattle.format_cli.proofs.Ends.{keeps_self}
 use Rattle.format_cli.proofs.Rest.{passed}
@@ -20,7 +21,7 @@ returns-in_err-text-clause-counts g c = λ f.
 pub returns-in_err-made-clause-refused : goal.returns-in_err-made-clause-refused
 returns-in_err-made-clause-refused g c =
     rw (passed c.from_residual-in_err-made.result c.in_err-made.field-0.0 c.from_residual-in_err-made.ensures)
-    (file_untold c.args.options.now c.args.place c.args.name.now c.in_ok-text.text.items _ _ _ _ _ c.in_err-made.field-0.0 c.in_ok-text.ensures.bytes c.in_ok-text.ensures.same (rw c.deref.ensures.value at c.in_err-made.ensures.refused))
+    (file_untold (values_of c.args.options.now) c.args.place c.args.name.now c.in_ok-text.text.items _ _ _ _ _ c.in_err-made.field-0.0 c.in_ok-text.ensures.bytes c.in_ok-text.ensures.same (rw c.deref.ensures.value at c.in_err-made.ensures.refused))
 
 pub returns-in_err-made-clause-counts : goal.returns-in_err-made-clause-counts
 returns-in_err-made-clause-counts g c = λ f.
@@ -29,31 +30,27 @@ returns-in_err-made-clause-counts g c = λ f.
     (raises_after c.in_err-made.field-0.0 _ _ _ (c.in_ok-text.ensures.counts ends)
     (c.in_err-made.ensures.counts (record ends { files = g.F.Files.faults c.read_file.new.files; misses = g.F.Files.misses c.read_file.new.files })))
 
-pub returns-in_err-put_file-clause-refused : goal.returns-in_err-put_file-clause-refused
-returns-in_err-put_file-clause-refused g c =
-    let made = c.in_ok-made.made in
-    rw (passed c.from_residual-in_err-put_file.result c.in_err-put_file.field-0.0 c.from_residual-in_err-put_file.ensures)
-    (file_cut c.args.options.now c.args.place c.args.name.now c.in_ok-text.text.items (text_of made.laid) made.changed _ _ _ _ _ _ _ c.in_err-put_file.field-0.0 c.in_ok-text.ensures.bytes (rw c.deref.ensures.value at c.in_ok-made.ensures.told) (rw c.deref.ensures.value at c.in_ok-made.ensures.changed) c.in_ok-text.ensures.same
-    c.in_err-put_file.ensures.refused)
-
-pub returns-in_err-put_file-clause-counts : goal.returns-in_err-put_file-clause-counts
-returns-in_err-put_file-clause-counts g c = λ f.
-    let before = record f { out = g.K.Sink.faults c.args.out.now; notes = g.E.Sink.faults c.args.notes.now } in
-    let read = record before { files = g.F.Files.faults c.read_file.new.files; misses = g.F.Files.misses c.read_file.new.files } in
-    rw (passed c.from_residual-in_err-put_file.result c.in_err-put_file.field-0.0 c.from_residual-in_err-put_file.ensures)
-    (raises_after c.in_err-put_file.field-0.0 _ _ _ (same_after _ _ _ (c.in_ok-text.ensures.counts before) (c.in_ok-made.ensures.counts read))
-    (c.in_err-put_file.ensures.counts (record f { notes = g.E.Sink.faults c.format_and_tell.new.notes })))
-
 pub returns-clause-done : goal.returns-clause-done
 returns-clause-done g c =
     let made = c.in_ok-made.made in
-    rw (ap (λ (made : Formatted). made.changed) c.made.view_is)
-    (file_done c.args.options.now c.args.place c.args.name.now c.in_ok-text.text.items (text_of made.laid) made.changed _ _ _ _ _ _ _ c.in_ok-text.ensures.bytes (rw c.deref.ensures.value at c.in_ok-made.ensures.told) (rw c.deref.ensures.value at c.in_ok-made.ensures.changed) c.in_ok-text.ensures.same
-    c.in_ok-put_file.ensures.done)
+    let told = rw c.deref.ensures.value at c.in_ok-made.ensures.told in
+    let changed = rw c.deref.ensures.value at c.in_ok-made.ensures.changed in
+    ok_follows _ _ c.put_file.result
+    (λ changes k. rw k.0 (file_done (values_of c.args.options.now) c.args.place c.args.name.now c.in_ok-text.text.items (text_of made.laid) made.changed _ _ _ _ _ _ _ c.in_ok-text.ensures.bytes told changed c.in_ok-text.ensures.same k.1))
+    c.put_file.ensures.done
+
+pub returns-clause-refused : goal.returns-clause-refused
+returns-clause-refused g c =
+    let made = c.in_ok-made.made in
+    let told = rw c.deref.ensures.value at c.in_ok-made.ensures.told in
+    let changed = rw c.deref.ensures.value at c.in_ok-made.ensures.changed in
+    err_map _ _ c.put_file.result
+    (λ refusal k. file_cut (values_of c.args.options.now) c.args.place c.args.name.now c.in_ok-text.text.items (text_of made.laid) made.changed _ _ _ _ _ _ _ refusal c.in_ok-text.ensures.bytes told changed c.in_ok-text.ensures.same k)
+    c.put_file.ensures.refused
 
 pub returns-clause-counts : goal.returns-clause-counts
 returns-clause-counts g c = λ f.
     let before = record f { out = g.K.Sink.faults c.args.out.now; notes = g.E.Sink.faults c.args.notes.now } in
     let read = record before { files = g.F.Files.faults c.read_file.new.files; misses = g.F.Files.misses c.read_file.new.files } in
-    same_after _ _ _ (same_after _ _ _ (c.in_ok-text.ensures.counts before) (c.in_ok-made.ensures.counts read))
-    (c.in_ok-put_file.ensures.counts (record f { notes = g.E.Sink.faults c.format_and_tell.new.notes }))
+    counted_after _ c.put_file.result _ _ _ (same_after _ _ _ (c.in_ok-text.ensures.counts before) (c.in_ok-made.ensures.counts read))
+    (c.put_file.ensures.counts (record f { notes = g.E.Sink.faults c.format_and_tell.new.notes }))

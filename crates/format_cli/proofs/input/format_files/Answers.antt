@@ -2,6 +2,7 @@ use Rattle.std.proofs.Common.{◌∙◌, false, ◌||◌, ap, map, ℕ, List, re
 use Rattle.std.specs.Borrow.{Bor}
 use Rattle.command_refusals.specs.Counts.{Faults}
 use Rattle.command_refusals.proofs.Counts.{raises_after}
+use Rattle.format_cli.specs.Options.{values_of}
 use Rattle.format_cli.specs.Inputs.{ends, AreDoneWith, AreRefused}
 use Rattle.format_cli.proofs.Rest.{names_step, passed, rest_end}
 use Rattle.format_cli.proofs.Changes.{all_told, and_those_behind, none_left, one_more}
@@ -15,7 +16,7 @@ returns-in_err-here-clause-refused g c =
     let refusal = c.in_err-here.field-0.0 in
     rw (passed c.from_residual.result refusal c.from_residual.ensures)
     (c.loop-name.invariant.refused now refusal
-    (subst (λ (names : List (List ℕ)). AreRefused c.args.options.now c.args.place names before now refusal) (sym step) (inl c.in_err-here.ensures.refused)))
+    (subst (λ (names : List (List ℕ)). AreRefused (values_of c.args.options.now) c.args.place names before now refusal) (sym step) (inl c.in_err-here.ensures.refused)))
 
 pub returns-in_err-here-clause-counts : goal.returns-in_err-here-clause-counts
 returns-in_err-here-clause-counts g c = λ f.
@@ -34,13 +35,13 @@ loop-name-preserved g c =
     record {
       done = λ end rest k.
           rw c.some_changes-changes.ensures
-          (one_more c.args.options.now c.args.place _ _ end c.loop-name.changes c.in_ok-here.here rest
+          (one_more (values_of c.args.options.now) c.args.place _ _ end c.loop-name.changes c.in_ok-here.here rest
           (c.loop-name.invariant.done end (c.in_ok-here.here || rest)
-          (subst (λ (names : List (List ℕ)). AreDoneWith c.args.options.now c.args.place names before end (c.in_ok-here.here || rest)) (sym step)
-          (and_those_behind c.args.options.now c.args.place _ _ before between end c.in_ok-here.here rest c.in_ok-here.ensures.done k))));
+          (subst (λ (names : List (List ℕ)). AreDoneWith (values_of c.args.options.now) c.args.place names before end (c.in_ok-here.here || rest)) (sym step)
+          (and_those_behind (values_of c.args.options.now) c.args.place _ _ before between end c.in_ok-here.here rest c.in_ok-here.ensures.done k))));
       refused = λ end refusal k.
           c.loop-name.invariant.refused end refusal
-          (subst (λ (names : List (List ℕ)). AreRefused c.args.options.now c.args.place names before end refusal) (sym step) (inr (between, c.in_ok-here.ensures.done.0, k)));
+          (subst (λ (names : List (List ℕ)). AreRefused (values_of c.args.options.now) c.args.place names before end refusal) (sym step) (inr (between, c.in_ok-here.ensures.done.0, k)));
       out = same.out ∙ c.loop-name.invariant.out;
       notes = same.notes ∙ c.loop-name.invariant.notes;
       files = same.files ∙ c.loop-name.invariant.files;
@@ -49,5 +50,5 @@ loop-name-preserved g c =
 
 pub returns-clause-done : goal.returns-clause-done
 returns-clause-done g c =
-    all_told c.args.options.now c.args.place _ _ _ c.loop-name.changes
-    (c.loop-name.invariant.done _ false (none_left c.args.options.now c.args.place _ _ (ap (map (λ (name : Bor (List ℕ)). name.now)) (rest_end c.args.names.now c.loop-name.name-index c.loop-name-test.false))))
+    all_told (values_of c.args.options.now) c.args.place _ _ _ c.loop-name.changes
+    (c.loop-name.invariant.done _ false (none_left (values_of c.args.options.now) c.args.place _ _ (ap (map (λ (name : Bor (List ℕ)). name.now)) (rest_end c.args.names.now c.loop-name.name-index c.loop-name-test.false))))

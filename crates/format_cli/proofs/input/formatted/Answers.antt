@@ -5,7 +5,7 @@ use Rattle.format_cli.proofs.input.formatted.Goals as goal
 
 pub returns-in-Ok-clause-formats : goal.returns-in-Ok-clause-formats
 returns-in-Ok-clause-formats c =
-    let made = rw c.as_ref.ensures.value at c.in-Ok.ensures.formats in (
+    let made = c.in-Ok.ensures.formats in (
       record {
         fits = c.in-Ok.ensures.fits;
         reports = c.in-Ok.formatted.reports.now;

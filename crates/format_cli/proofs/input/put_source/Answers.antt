@@ -1,14 +1,21 @@
-use Rattle.format_cli.proofs.Rest.{if_err}
+use Rattle.std.proofs.Common.{refl}
+use Rattle.format_cli.proofs.Ends.{keeps_self}
 use Rattle.format_cli.proofs.input.put_source.Goals as goal
 
-pub returns-in-Output-clause-ok : goal.returns-in-Output-clause-ok
-returns-in-Output-clause-ok g c = rw c.in-Output.is c.write.ensures.ok
+pub returns-in-Output-clause-done : goal.returns-in-Output-clause-done
+returns-in-Output-clause-done g c = rw c.in-Output.is c.write_text.ensures.done
 
-pub returns-in-Output-clause-part : goal.returns-in-Output-clause-part
-returns-in-Output-clause-part g c = rw c.in-Output.is (if_err _ c.write.result c.write.ensures.part)
+pub returns-in-Output-clause-refused : goal.returns-in-Output-clause-refused
+returns-in-Output-clause-refused g c = rw c.in-Output.is c.write_text.ensures.refused
 
-pub returns-in-Itself-clause-ok : goal.returns-in-Itself-clause-ok
-returns-in-Itself-clause-ok g c = rw c.in-Itself.is c.write-in-Itself.ensures.ok
+pub returns-in-Itself-clause-done : goal.returns-in-Itself-clause-done
+returns-in-Itself-clause-done g c = rw c.in-Itself.is c.write_text-in-Itself.ensures.done
 
-pub returns-in-Itself-clause-part : goal.returns-in-Itself-clause-part
-returns-in-Itself-clause-part g c = rw c.in-Itself.is (if_err _ c.write-in-Itself.result c.write-in-Itself.ensures.part)
+pub returns-in-Itself-clause-refused : goal.returns-in-Itself-clause-refused
+returns-in-Itself-clause-refused g c = rw c.in-Itself.is c.write_text-in-Itself.ensures.refused
+
+pub returns-in-Nowhere-clause-done : goal.returns-in-Nowhere-clause-done
+returns-in-Nowhere-clause-done g c = rw c.in-Nowhere.is (refl, keeps_self _)
+
+pub returns-in-Nowhere-clause-counts : goal.returns-in-Nowhere-clause-counts
+returns-in-Nowhere-clause-counts g c = λ f. record { source = refl; out = refl; notes = refl; files = refl; misses = refl }
