@@ -10,3 +10,4 @@ mod InputOrder
 mod NotesTaken
 mod Order
 mod Joined
+mod Refusals

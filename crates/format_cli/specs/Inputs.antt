@@ -1,9 +1,12 @@
 -- What is done with the inputs, in their order.
 use Rattle.std.specs.Prelude.{◌≡◌, ◌≢◌, ◌≤◌, ◌<◌, ◌⊎◌, ◌↔◌, ⊤, ℕ, Bool, IsTrue, not, List, [], ◌∷◌, Option, IfSome}
 use Rattle.std.specs.Prelude.{codes, false, length, true}
+use Rattle.std.specs.Borrow.{Bor}
 use Rattle.std.specs.Io.KnownBytes.{Appends, Keeps}
 use Rattle.fmt_ports.specs.Causes.{AppendsPart}
 use Rattle.fmt_ports.specs.Files.{Held, KeepsAll, KeepsOthers}
+use Rattle.fmt_ports.specs.declared.files.FileFault.{FileFault}
+use Rattle.fmt_ports.specs.declared.files.FileFault.TheVariants as File
 use Rattle.c_chars.specs.declared.TheConstants.{LIMIT}
 use Rattle.c_chars.specs.declared.Dialect.TheVariants.{C11}
 use Rattle.c_lexer.specs.Fault.{IsOpenAt}
@@ -13,6 +16,8 @@ use Rattle.pp_model.specs.Alike.{Alike}
 use Rattle.run_layout.specs.declared.report.Counts.{Counts}
 use Rattle.run_layout.specs.declared.report.Report.{Report}
 use Rattle.format_core.specs.Formats.{Formats}
+use Rattle.format_core.specs.declared.fault.FormatFault.{FormatFault}
+use Rattle.format_core.specs.declared.fault.FormatFault.TheVariants as Format
 use Rattle.format_core.specs.Reports.{AreCounts}
 use Rattle.command_refusals.specs.declared.refusal.Refusal.{Refusal}
 use Rattle.command_refusals.specs.declared.refusal.Refusal.TheVariants.{TooLarge, OpenComment, SourceFailed, FileFailed}
@@ -60,6 +65,12 @@ IsTextCause name text (TooLarge input) = (input.now ≡ name) × (LIMIT < length
 IsTextCause name text (OpenComment input at) = (input.now ≡ name) × (length text ≤ LIMIT) × IsOpenAt C11 text at
 IsTextCause name text NoMemory = ⊤
 IsTextCause name text refusal = ⊥
+
+-- the refusal of a text of this name that isn't formatted
+abbrev pub text_refusal : Bor (List ℕ) → FormatFault → Refusal
+text_refusal name (Format.UnterminatedComment start) = OpenComment name start
+text_refusal name (Format.TooLarge bytes) = TooLarge name
+text_refusal name Format.NoMemory = NoMemory
 
 -- a text of this name was formatted, and the notes took its rows
 abbrev pub IsTextTold : Options → Place → (name b c : List ℕ) → (told told' : Option (List ℕ)) → Type 0
@@ -157,6 +168,13 @@ IsFileCause held name (OpenComment file at) =
 IsFileCause held name (FileFailed file) = file.now ≡ name
 IsFileCause held name NoMemory = ⊤
 IsFileCause held name refusal = ⊥
+
+-- the refusal of a FILE that can't be read or written
+abbrev pub file_refusal : Bor (List ℕ) → FileFault → Refusal
+file_refusal name File.Missing = Missing name
+file_refusal name File.Failed = FileFailed name
+file_refusal name File.TooLong = TooLarge name
+file_refusal name File.NoMemory = NoMemory
 
 -- a file wasn't written back: it is unknown, or no file changed
 abbrev pub IsWriteRefused : List ℕ → Held → Held → Refusal → Type 0

@@ -14,7 +14,7 @@ ghost use Rattle.command_refusals.specs.InForce.{IsHeld};
 ghost use Rattle.format_cli.specs.Inputs.{AreDoneWith, AreRefused, FilePutFails, FilePuts, IsDoneWith, IsFileCause};
 ghost use Rattle.format_cli.specs.Inputs.{IsFileRefused, IsFormatted, IsSourceCause, IsSourceDoneWith, IsSourceRefused};
 ghost use Rattle.format_cli.specs.Inputs.{IsTextCause, IsTextRefused, IsTextTold, IsTold, IsWriteRefused};
-ghost use Rattle.format_cli.specs.Inputs.{SourcePutFails, SourcePuts, ends};
+ghost use Rattle.format_cli.specs.Inputs.{SourcePutFails, SourcePuts, ends, file_refusal, text_refusal};
 
 use crate::told::tell_input;
 use bumpalo::Bump;
@@ -49,6 +49,20 @@ pub enum Place {
     Nowhere,
 }
 
+/// The refusal of an input of this name whose text isn't formatted.
+fn text_refusal<'w>(name: &'w str, fault: FormatFault) -> Refusal<'w>
+    ensures { result ≡ text_refusal name.entry fault }
+{
+    match fault {
+        FormatFault::UnterminatedComment { start } => Refusal::OpenComment {
+            input: name,
+            at: start,
+        },
+        FormatFault::TooLarge { .. } => Refusal::TooLarge(name),
+        FormatFault::NoMemory => Refusal::NoMemory,
+    }
+}
+
 /// The formatted text of an input of this name.
 fn formatted<'a, 's, 'w>(
     alloc: Global,
@@ -73,12 +87,7 @@ fn formatted<'a, 's, 'w>(
     };
     match format(alloc, bump, text, options.style, &job) {
         Ok(formatted) => Ok(formatted),
-        Err(FormatFault::UnterminatedComment { start }) => Err(Refusal::OpenComment {
-            input: name,
-            at: start,
-        }),
-        Err(FormatFault::TooLarge { .. }) => Err(Refusal::TooLarge(name)),
-        Err(FormatFault::NoMemory) => Err(Refusal::NoMemory),
+        Err(fault) => Err(text_refusal(name, fault)),
     }
 }
 
@@ -203,7 +212,8 @@ pub fn format_generated<E: Sink>(
     requires range { IsInRange options.now.style.now }
     requires budget { options.now.budget ≤ 16000000 }
     ensures done { IfOk result (λ changes.
-        IsGeneratedDoneWith (values_of options.now) (text_of generate) (E.taken notes.old) (E.taken notes.new) changes) }
+        IsGeneratedDoneWith (values_of options.now) (text_of generate) (E.taken notes.old) (E.taken notes.new)
+        changes) }
     ensures refused { IfErr result
         (IsGeneratedRefused (values_of options.now) (text_of generate) (E.taken notes.old) (E.taken notes.new)) }
     ensures counts { (f : Faults) →
@@ -226,6 +236,18 @@ pub fn format_generated<E: Sink>(
     Ok(made.changed)
 }
 
+/// The refusal of a FILE that can't be read or written.
+fn file_refusal<'w>(name: &'w str, fault: FileFault) -> Refusal<'w>
+    ensures { result ≡ file_refusal name.entry fault }
+{
+    match fault {
+        FileFault::Missing => Refusal::Missing(name),
+        FileFault::Failed => Refusal::FileFailed(name),
+        FileFault::TooLong => Refusal::TooLarge(name),
+        FileFault::NoMemory => Refusal::NoMemory,
+    }
+}
+
 /// The bytes of a FILE.
 fn read_file<'w, F: Files>(name: &'w str, files: &mut F) -> Result<Vec<u8>, Refusal<'w>>
     ensures bytes { IfOk result (λ text. IsHeld (F.holds files.old) name.entry.now text.items) }
@@ -237,10 +259,7 @@ fn read_file<'w, F: Files>(name: &'w str, files: &mut F) -> Result<Vec<u8>, Refu
 {
     match files.read(name, LIMIT as u64) {
         Ok(text) => Ok(text),
-        Err(FileFault::Missing) => Err(Refusal::Missing(name)),
-        Err(FileFault::Failed) => Err(Refusal::FileFailed(name)),
-        Err(FileFault::TooLong) => Err(Refusal::TooLarge(name)),
-        Err(FileFault::NoMemory) => Err(Refusal::NoMemory),
+        Err(fault) => Err(file_refusal(name, fault)),
     }
 }
 
@@ -265,10 +284,7 @@ fn write_back<'w, F: Files>(
     };
     match files.write(name, &text) {
         Ok(()) => Ok(formatted.changed),
-        Err(FileFault::NoMemory) => Err(Refusal::NoMemory),
-        Err(FileFault::Failed) => Err(Refusal::FileFailed(name)),
-        Err(FileFault::Missing) => Err(Refusal::Missing(name)),
-        Err(FileFault::TooLong) => Err(Refusal::TooLarge(name)),
+        Err(fault) => Err(file_refusal(name, fault)),
     }
 }
 

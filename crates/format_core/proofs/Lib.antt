@@ -10,3 +10,4 @@ pub mod RunsTold
 pub mod Told
 pub mod RowsStay
 pub mod FromBound
+pub mod Failed

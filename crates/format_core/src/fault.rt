@@ -6,21 +6,16 @@ ghost use Rattle.format_core.specs.declared.fault.FormatFault.TheVariants as For
 
 use c_chars::LIMIT;
 use line_tokens::NoMemory;
-use std::alloc::AllocError;
-use thiserror::Error;
 use token_arena::ArenaFault;
 
 /// Why a text isn't formatted.
-#[derive(Clone, Copy, Debug, Error)]
+#[derive(Clone, Copy)]
 pub enum FormatFault {
     /// The text is within the limit, and a block comment that nothing ends begins at this offset (C11 6.4.9).
-    #[error("comment without an end at byte {start}")]
     UnterminatedComment { start: u32 },
     /// The text has more than [`LIMIT`] bytes; it has this many.
-    #[error("more than {LIMIT} bytes")]
     TooLarge { bytes: u64 },
     /// Memory ran out.
-    #[error("no memory")]
     NoMemory,
 }
 
@@ -40,14 +35,6 @@ impl From<NoMemory> for FormatFault {
     ghost from_gives = { λ _ result. result ≡ FormatFault.NoMemory };
 
     fn from(_: NoMemory) -> Self {
-        FormatFault::NoMemory
-    }
-}
-
-impl From<AllocError> for FormatFault {
-    ghost from_gives = { λ _ result. result ≡ FormatFault.NoMemory };
-
-    fn from(_: AllocError) -> Self {
         FormatFault::NoMemory
     }
 }

@@ -115,7 +115,9 @@ fn is_formatted(rt: &impl Abort, alloc: Global, style: &Style, run: &Bump, row: 
         dialect: Dialect::C11,
         ranges: ranges.as_ref(),
     };
-    let made = format(alloc, run, row.text, style, &job).expect(rt, row.name);
+    let made = format(alloc, run, row.text, style, &job)
+        .ok()
+        .expect(rt, row.name);
     let bytes = made.bytes(alloc).expect(rt, row.name);
     same(rt, row.name, bytes.as_slice(), row.out);
 }

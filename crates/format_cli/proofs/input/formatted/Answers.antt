@@ -1,6 +1,7 @@
 use Rattle.std.proofs.Common.{refl}
 use Rattle.c_chars.specs.declared.Dialect.TheVariants.{C11}
 use Rattle.pp_model.proofs.Alike.{alike}
+use Rattle.format_cli.proofs.Refusals.{text_cause, text_raises}
 use Rattle.format_cli.proofs.input.formatted.Goals as goal
 
 pub returns-in-Ok-clause-formats : goal.returns-in-Ok-clause-formats
@@ -18,3 +19,12 @@ returns-in-Ok-clause-formats c =
       refl,
       refl,
     )
+
+pub returns-in-Ok-clause-counts : goal.returns-in-Ok-clause-counts
+returns-in-Ok-clause-counts c = λ f. record { source = refl; out = refl; notes = refl; files = refl; misses = refl }
+
+pub returns-in-Err-clause-refused : goal.returns-in-Err-clause-refused
+returns-in-Err-clause-refused c = rw c.text_refusal.ensures (text_cause c.args.name c.args.text.now c.in-Err.fault c.in-Err.ensures.fault)
+
+pub returns-in-Err-clause-counts : goal.returns-in-Err-clause-counts
+returns-in-Err-clause-counts c = λ f. rw c.text_refusal.ensures (text_raises c.args.name c.in-Err.fault f)

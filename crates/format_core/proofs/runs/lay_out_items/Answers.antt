@@ -5,6 +5,7 @@ use Rattle.replacements.specs.Decisions.{decided_all}
 use Rattle.run_parts.specs.KeptGaps.{kept_decisions}
 use Rattle.format_core.proofs.MadeSo.{made_so}
 use Rattle.format_core.proofs.RunsTold.{items_from}
+use Rattle.format_core.proofs.Failed.{not_done}
 use Rattle.format_core.proofs.runs.lay_out_items.Goals as goal
 
 pub prove-unreachable-requires : goal.prove-unreachable-requires
@@ -57,3 +58,9 @@ returns c =
           (on_ok_weaker c.lay_out_view.result (λ len. len ∙ (c.keep_gaps.ensures.len ∙ c.requires.made.whole)) c.lay_out_view.ensures.len) c.lay_out_view.ensures.cheap c.lay_out_view.ensures.counted;
       room = c.lay_out_view.ensures.room;
     }
+
+pub returns-in_err-read : goal.returns-in_err-read
+returns-in_err-read c =
+    let result = c.from_residual.result in
+    let err = c.from_residual.ensures.0 in
+    record { told = not_done result _ err; made = not_done result _ err; room = not_done result _ err }

@@ -16,6 +16,8 @@ use Rattle.format_core.proofs.RowsStay.{place_decided, rows_behind}
 use Rattle.run_parts.proofs.SeenInOrder.{seen_increases}
 use Rattle.run_parts.proofs.WindowParts.{isnt_told, stop_is, window_increases, window_inside, window_laid, window_part}
 use Rattle.run_parts.proofs.WindowParts.{window_row, window_slice}
+use Rattle.part_walk.proofs.Failed.{no_value}
+use Rattle.format_core.proofs.Failed.{not_done}
 use Rattle.format_core.proofs.runs.lay_out_next.Goals as goal
 use Rattle.format_core.proofs.runs.lay_out_next.Goals.{else-is_none-via-then-is_none+else-window-len}
 use Rattle.format_core.proofs.runs.lay_out_next.Goals.{else-is_none-via-else-is_none}
@@ -253,4 +255,42 @@ returns-clause-next c =
       some = part.some;
       told = λ told is. record { tell = part.told told is; later = part.later told is; below = part.below told is };
       whole = part.whole;
+    }
+
+pub returns-in_err-part : goal.returns-in_err-part
+returns-in_err-part c =
+    let result = c.from_residual.result in
+    let err = c.from_residual.ensures.0 in
+    record {
+      state = not_done result _ err;
+      on = not_done result _ err;
+      room = not_done result _ err;
+      within = not_done result _ err;
+      end = no_value result _ err;
+      inside = no_value result _ err;
+      begun = no_value result _ err;
+      next = no_value result _ err;
+      none = no_value result _ err;
+      stays = no_value result _ err;
+      bounds = not_done result _ err;
+      same = not_done result _ err;
+    }
+
+pub returns-in_err-lay_out_part : goal.returns-in_err-lay_out_part
+returns-in_err-lay_out_part c =
+    let result = c.from_residual-in_err-lay_out_part.result in
+    let err = c.from_residual-in_err-lay_out_part.ensures.0 in
+    record {
+      state = not_done result _ err;
+      on = not_done result _ err;
+      room = not_done result _ err;
+      within = not_done result _ err;
+      end = no_value result _ err;
+      inside = no_value result _ err;
+      begun = no_value result _ err;
+      next = no_value result _ err;
+      none = no_value result _ err;
+      stays = no_value result _ err;
+      bounds = not_done result _ err;
+      same = not_done result _ err;
     }

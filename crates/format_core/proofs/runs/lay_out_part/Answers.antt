@@ -10,6 +10,7 @@ use Rattle.run_parts.proofs.Parts.{all_decided_of, laid_decided, laid_have, part
 use Rattle.run_parts.proofs.PlacesStand.{laid_few}
 use Rattle.run_parts.proofs.RowsDecided.{own_items, own_segment, row_decided}
 use Rattle.format_core.proofs.RunsTold.{items_told_nothing}
+use Rattle.format_core.proofs.Failed.{not_done}
 use Rattle.format_core.proofs.runs.lay_out_part.Goals as goal
 
 pub returns-then-is_part_decided-clause-told : goal.returns-then-is_part_decided-clause-told
@@ -95,3 +96,9 @@ returns-then-is_none-clause-made c = c.lay_out_items.ensures.made
 
 pub returns-clause-made : goal.returns-clause-made
 returns-clause-made c = c.lay_out_items-2.ensures.made
+
+pub returns-in_err-laid : goal.returns-in_err-laid
+returns-in_err-laid c =
+    let result = c.from_residual.result in
+    let err = c.from_residual.ensures.0 in
+    record { told = not_done result _ err; made = not_done result _ err; room = not_done result _ err }

@@ -13,6 +13,7 @@ use Rattle.run_parts.proofs.RunsFew.{runs_few}
 use Rattle.format_core.proofs.RunsTold.{runs_begin, run_done, runs_end}
 use Rattle.run_parts.proofs.SeenEarlier.{none_seen, behind_change, before_change, run_bounds}
 use Rattle.format_core.proofs.SeenBefore.{run_seen, nothing_new_told}
+use Rattle.format_core.proofs.Failed.{not_done}
 use Rattle.format_core.proofs.runs.lay_out_runs.Goals as goal
 
 pub loop-number-init : goal.loop-number-init
@@ -125,3 +126,15 @@ returns-clause-told c =
 
 pub returns-clause-made : goal.returns-clause-made
 returns-clause-made c = c.loop-number.invariant.state.made_is
+
+pub returns-in_err-known : goal.returns-in_err-known
+returns-in_err-known c =
+    let result = c.from_residual.result in
+    let err = c.from_residual.ensures.0 in
+    record { told = not_done result _ err; made = not_done result _ err }
+
+pub returns-in_err-lay_out_seen : goal.returns-in_err-lay_out_seen
+returns-in_err-lay_out_seen c =
+    let result = c.from_residual-in_err-lay_out_seen.result in
+    let err = c.from_residual-in_err-lay_out_seen.ensures.0 in
+    record { told = not_done result _ err; made = not_done result _ err }

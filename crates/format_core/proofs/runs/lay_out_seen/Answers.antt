@@ -17,6 +17,7 @@ use Rattle.run_parts.proofs.PlacesStand.{placed_has}
 use Rattle.run_parts.proofs.Seen.{seen_within}
 use Rattle.run_parts.proofs.SeenInOrder.{seen_increases, seen_few}
 use Rattle.run_parts.proofs.Stretches.{front_short, window_fits, next_window}
+use Rattle.format_core.proofs.Failed.{not_done}
 use Rattle.format_core.proofs.runs.lay_out_seen.Goals as goal
 
 pub loop-window-init : goal.loop-window-init
@@ -142,4 +143,26 @@ loop-window-preserved c =
       bounds = laid.bounds;
       on = subst (λ k. GoesOnFrom c.args.context.now.style.now c.args.context.now.budget arena number c.args.made.now.plan seen c.args.made.now.tally c.lay_out_window.new.made.plan (place_in c.lay_out_window.new.way.inside) k c.lay_out_window.new.made.tally) (sym next.stands)
           (laid.on c.args.made.now.plan c.args.made.now.tally on);
+    }
+
+pub returns-in_err-view_between : goal.returns-in_err-view_between
+returns-in_err-view_between c =
+    let result = c.from_residual.result in
+    let err = c.from_residual.ensures.0 in
+    record {
+      told = not_done result _ err;
+      room = not_done result _ err;
+      state = not_done result _ err;
+      bounds = not_done result _ err;
+    }
+
+pub returns-in_err-stopped : goal.returns-in_err-stopped
+returns-in_err-stopped c =
+    let result = c.from_residual-in_err-stopped.result in
+    let err = c.from_residual-in_err-stopped.ensures.0 in
+    record {
+      told = not_done result _ err;
+      room = not_done result _ err;
+      state = not_done result _ err;
+      bounds = not_done result _ err;
     }

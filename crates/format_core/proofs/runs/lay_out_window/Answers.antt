@@ -18,6 +18,8 @@ use Rattle.run_parts.proofs.Between.{in_order}
 use Rattle.run_parts.proofs.PlacesStand.{never_none}
 use Rattle.run_parts.proofs.SeenInOrder.{seen_increases}
 use Rattle.run_parts.proofs.WindowParts.{seen_item, behind_window, stands_in_seen}
+use Rattle.part_walk.proofs.Failed.{no_value}
+use Rattle.format_core.proofs.Failed.{not_done}
 use Rattle.format_core.proofs.runs.lay_out_window.Goals as goal
 
 pub prove-unreachable-requires : goal.prove-unreachable-requires
@@ -236,4 +238,40 @@ returns c =
           let past : place + length window.view ≤ k = omega (arith, low, c.loop-way-test.false, c.len-count.ensures.count) in
           let behind = behind_window arena window.number window.first window.end window.view k c.requires.window past high in
           omega (arith, behind, c.requires.new);
+    }
+
+pub returns-in_err-found : goal.returns-in_err-found
+returns-in_err-found c =
+    let result = c.from_residual.result in
+    let err = c.from_residual.ensures.0 in
+    record {
+      state = not_done result _ err;
+      on = not_done result _ err;
+      room = not_done result _ err;
+      inside = not_done result _ err;
+      bounds = not_done result _ err;
+      begin = no_value result _ err;
+      stopped = no_value result _ err;
+      here = no_value result _ err;
+      begun = not_done result _ err;
+      short = no_value result _ err;
+      done = no_value result _ err;
+    }
+
+pub returns-in_err-note_bound : goal.returns-in_err-note_bound
+returns-in_err-note_bound c =
+    let result = c.from_residual-in_err-note_bound.result in
+    let err = c.from_residual-in_err-note_bound.ensures.0 in
+    record {
+      state = not_done result _ err;
+      on = not_done result _ err;
+      room = not_done result _ err;
+      inside = not_done result _ err;
+      bounds = not_done result _ err;
+      begin = no_value result _ err;
+      stopped = no_value result _ err;
+      here = no_value result _ err;
+      begun = not_done result _ err;
+      short = no_value result _ err;
+      done = no_value result _ err;
     }

@@ -7,6 +7,7 @@ use Rattle.branch_runs.specs.Runs.{need}
 use Rattle.run_layout.specs.Reports.{reports_of}
 use Rattle.run_layout.specs.declared.report.Report.{Report}
 use Rattle.format_core.proofs.Planned.{planned_by}
+use Rattle.part_walk.proofs.Failed.{no_value}
 use Rattle.format_core.proofs.runs.plan_of.Goals as goal
 
 pub build-requires : goal.build-requires
@@ -51,3 +52,33 @@ returns-clause-plan c =
       searched = omega (arith, told.told.searched, begun.searched);
       cost = omega (arith, told.told.cost, begun.cost);
     }
+
+pub returns-in_err-tree : goal.returns-in_err-tree
+returns-in_err-tree c =
+    let result = c.from_residual.result in
+    let err = c.from_residual.ensures.0 in
+    record { plan = no_value result _ err; len = no_value result _ err }
+
+pub returns-in_err-item_classes : goal.returns-in_err-item_classes
+returns-in_err-item_classes c =
+    let result = c.from_residual-in_err-item_classes.result in
+    let err = c.from_residual-in_err-item_classes.ensures.0 in
+    record { plan = no_value result _ err; len = no_value result _ err }
+
+pub returns-in_err-plan : goal.returns-in_err-plan
+returns-in_err-plan c =
+    let result = c.from_residual-in_err-plan.result in
+    let err = c.from_residual-in_err-plan.ensures.0 in
+    record { plan = no_value result _ err; len = no_value result _ err }
+
+pub returns-in_err-decide_early : goal.returns-in_err-decide_early
+returns-in_err-decide_early c =
+    let result = c.from_residual-in_err-decide_early.result in
+    let err = c.from_residual-in_err-decide_early.ensures.0 in
+    record { plan = no_value result _ err; len = no_value result _ err }
+
+pub returns-in_err-lay_out_runs : goal.returns-in_err-lay_out_runs
+returns-in_err-lay_out_runs c =
+    let result = c.from_residual-in_err-lay_out_runs.result in
+    let err = c.from_residual-in_err-lay_out_runs.ensures.0 in
+    record { plan = no_value result _ err; len = no_value result _ err }
