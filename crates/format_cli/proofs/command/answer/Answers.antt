@@ -68,3 +68,12 @@ returns-in_err-changes-clause-counts g c =
     let all : Faults = record { source = g.S.Source.faults c.args.source.now; out = g.K.Sink.faults c.args.out.now; notes = 0; files = 0; misses = 0 } in
     rw (passed c.from_residual-in_err-changes.result c.in_err-changes.field-0.0 c.from_residual-in_err-changes.ensures)
     (raises_after c.in_err-changes.field-0.0 _ _ _ (c.in_ok-style.ensures.counts all) (c.in_err-changes.ensures.counts all))
+
+pub returns-in_err-style-clause-done : goal.returns-in_err-style-clause-done
+returns-in_err-style-clause-done g c = λ words reads. rw (passed c.from_residual.result c.in_err-style.field-0.0 c.from_residual.ensures) tt
+
+pub returns-in_err-changes-clause-done : goal.returns-in_err-changes-clause-done
+returns-in_err-changes-clause-done g c = λ words reads. rw (passed c.from_residual-in_err-changes.result c.in_err-changes.field-0.0 c.from_residual-in_err-changes.ensures) tt
+
+pub returns-clause-refused : goal.returns-clause-refused
+returns-clause-refused g c = λ words reads. tt

@@ -200,3 +200,9 @@ returns-in-Ok-WouldChange-clause-missing_name g c is = absurd (apart 1 6 refl is
 
 pub returns-in-Ok-WouldChange-clause-missing : goal.returns-in-Ok-WouldChange-clause-missing
 returns-in-Ok-WouldChange-clause-missing g c is = absurd (apart 1 6 refl is)
+
+pub returns-in-Ok-Done-clause-done : goal.returns-in-Ok-Done-clause-done
+returns-in-Ok-Done-clause-done g c is = rw c.in-Ok-Done.field-0-is at c.in-Ok-Done.ensures.done
+
+pub returns-in-Ok-WouldChange-clause-done : goal.returns-in-Ok-WouldChange-clause-done
+returns-in-Ok-WouldChange-clause-done g c is = rw c.in-Ok-WouldChange.field-0-is at c.in-Ok-WouldChange.ensures.done

@@ -21,3 +21,6 @@ returns-in-Ok-clause-refused g c = c.answer.ensures.refused _ c.in-Ok.ensures.re
 
 pub returns-in-Ok-clause-counts : goal.returns-in-Ok-clause-counts
 returns-in-Ok-clause-counts g c = c.answer.ensures.counts
+
+pub returns-in-Err-clause-done : goal.returns-in-Err-clause-done
+returns-in-Err-clause-done g c = tt

@@ -36,3 +36,18 @@ returns-clause-refused g c =
 pub returns-clause-counts : goal.returns-clause-counts
 returns-clause-counts g c = λ f.
     (record { source = refl; out = refl; notes = refl; files = refl; misses = refl }, c.in-Err.ensures.counts.cause)
+
+pub returns-in_err-formatted-clause-told : goal.returns-in_err-formatted-clause-told
+returns-in_err-formatted-clause-told g c = rw (passed c.from_residual.result c.in_err-formatted.field-0.0 c.from_residual.ensures) tt
+
+pub returns-in_err-formatted-clause-changed : goal.returns-in_err-formatted-clause-changed
+returns-in_err-formatted-clause-changed g c = rw (passed c.from_residual.result c.in_err-formatted.field-0.0 c.from_residual.ensures) tt
+
+pub returns-in-Ok-clause-refused : goal.returns-in-Ok-clause-refused
+returns-in-Ok-clause-refused g c = tt
+
+pub returns-clause-told : goal.returns-clause-told
+returns-clause-told g c = tt
+
+pub returns-clause-changed : goal.returns-clause-changed
+returns-clause-changed g c = tt

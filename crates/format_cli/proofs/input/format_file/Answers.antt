@@ -54,3 +54,9 @@ returns-clause-counts g c = λ f.
     let read = record before { files = g.F.Files.faults c.read_file.new.files; misses = g.F.Files.misses c.read_file.new.files } in
     counted_after _ c.put_file.result _ _ _ (same_after _ _ _ (c.in_ok-text.ensures.counts before) (c.in_ok-made.ensures.counts read))
     (c.put_file.ensures.counts (record f { notes = g.E.Sink.faults c.format_and_tell.new.notes }))
+
+pub returns-in_err-text-clause-done : goal.returns-in_err-text-clause-done
+returns-in_err-text-clause-done g c = rw (passed c.from_residual.result c.in_err-text.field-0.0 c.from_residual.ensures) tt
+
+pub returns-in_err-made-clause-done : goal.returns-in_err-made-clause-done
+returns-in_err-made-clause-done g c = rw (passed c.from_residual-in_err-made.result c.in_err-made.field-0.0 c.from_residual-in_err-made.ensures) tt

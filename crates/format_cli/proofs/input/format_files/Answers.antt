@@ -52,3 +52,13 @@ pub returns-clause-done : goal.returns-clause-done
 returns-clause-done g c =
     all_told (values_of c.args.options.now) c.args.place _ _ _ c.loop-name.changes
     (c.loop-name.invariant.done _ false (none_left (values_of c.args.options.now) c.args.place _ _ (ap (map (λ (name : Bor (List ℕ)). name.now)) (rest_end c.args.names.now c.loop-name.name-index c.loop-name-test.false))))
+
+pub returns-in_err-here-clause-done : goal.returns-in_err-here-clause-done
+returns-in_err-here-clause-done g c = rw (passed c.from_residual.result c.in_err-here.field-0.0 c.from_residual.ensures) tt
+
+pub returns-clause-refused : goal.returns-clause-refused
+returns-clause-refused g c = tt
+
+pub returns-clause-counts : goal.returns-clause-counts
+returns-clause-counts g c = λ f.
+    record { source = refl; out = c.loop-name.invariant.out; notes = c.loop-name.invariant.notes; files = c.loop-name.invariant.files; misses = c.loop-name.invariant.misses }

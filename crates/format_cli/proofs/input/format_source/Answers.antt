@@ -53,3 +53,9 @@ returns-clause-counts g c = λ f.
     (same_after _ _ _ (c.in_ok-text.ensures.counts (record f { out = g.K.Sink.faults c.args.out.now; notes = g.E.Sink.faults c.args.notes.now }))
     (c.in_ok-made.ensures.counts (record read { out = g.K.Sink.faults c.args.out.now })))
     (c.put_source.ensures.counts (record read { notes = g.E.Sink.faults c.format_and_tell.new.notes }))
+
+pub returns-in_err-text-clause-done : goal.returns-in_err-text-clause-done
+returns-in_err-text-clause-done g c = rw (passed c.from_residual.result c.in_err-text.field-0.0 c.from_residual.ensures) tt
+
+pub returns-in_err-made-clause-done : goal.returns-in_err-made-clause-done
+returns-in_err-made-clause-done g c = rw (passed c.from_residual-in_err-made.result c.in_err-made.field-0.0 c.from_residual-in_err-made.ensures) tt

@@ -37,3 +37,9 @@ returns-in-Nowhere-clause-done g c = rw c.in-Nowhere.is (refl, (keeps_self _, ke
 
 pub returns-in-Nowhere-clause-counts : goal.returns-in-Nowhere-clause-counts
 returns-in-Nowhere-clause-counts g c = λ f. record { source = refl; out = refl; notes = refl; files = refl; misses = refl }
+
+pub returns-else-formatted-clause-refused : goal.returns-else-formatted-clause-refused
+returns-else-formatted-clause-refused g c = tt
+
+pub returns-in-Nowhere-clause-refused : goal.returns-in-Nowhere-clause-refused
+returns-in-Nowhere-clause-refused g c = tt

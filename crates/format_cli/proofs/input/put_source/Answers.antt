@@ -19,3 +19,12 @@ returns-in-Nowhere-clause-done g c = rw c.in-Nowhere.is (refl, keeps_self _)
 
 pub returns-in-Nowhere-clause-counts : goal.returns-in-Nowhere-clause-counts
 returns-in-Nowhere-clause-counts g c = λ f. record { source = refl; out = refl; notes = refl; files = refl; misses = refl }
+
+pub returns-in-Nowhere-clause-refused : goal.returns-in-Nowhere-clause-refused
+returns-in-Nowhere-clause-refused g c = tt
+
+pub returns-in-Output-clause-counts : goal.returns-in-Output-clause-counts
+returns-in-Output-clause-counts g c = c.write_text.ensures.counts
+
+pub returns-in-Itself-clause-counts : goal.returns-in-Itself-clause-counts
+returns-in-Itself-clause-counts g c = c.write_text-in-Itself.ensures.counts

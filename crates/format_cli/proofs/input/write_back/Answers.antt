@@ -23,3 +23,12 @@ returns-clause-refused g c =
 
 pub returns-clause-counts : goal.returns-clause-counts
 returns-clause-counts g c = λ f. rw c.file_refusal.ensures (file_raises Unit c.args.name c.in-Err-write.fault f _ _ _ _ c.in-Err-write.ensures.counts.cause)
+
+pub returns-in-Err-clause-done : goal.returns-in-Err-clause-done
+returns-in-Err-clause-done g c = tt
+
+pub returns-in-Ok-write-clause-refused : goal.returns-in-Ok-write-clause-refused
+returns-in-Ok-write-clause-refused g c = tt
+
+pub returns-clause-done : goal.returns-clause-done
+returns-clause-done g c = tt

@@ -10,6 +10,7 @@ use Rattle.command_refusals.proofs.Results.{on_map}
 use Rattle.format_cli.specs.Notes.{input_rows}
 use Rattle.format_cli.specs.declared.input.Place.{Place}
 use Rattle.format_cli.specs.declared.input.Place.TheVariants.{Output, Itself, Nowhere}
+use Rattle.format_cli.proofs.Rest.{passed}
 use Rattle.format_cli.proofs.told.tell_input.Goals as goal
 
 -- the reports come first
@@ -48,3 +49,15 @@ returns-in-Nowhere-clause-part g c =
     let rows = report_rows c.args.name.now c.args.budget c.args.formatted.now.reports.now in
     let summary = summary_row c.args.name.now c.args.formatted.now.counts c.args.formatted.now.changed in
     rw c.in-Nowhere.is (part_of_rest _ _ _ rows summary _ refl c.in_ok-tell_reports.ensures.ok c.tell_summary.ensures.part)
+
+pub returns-in_err-tell_reports-clause-ok : goal.returns-in_err-tell_reports-clause-ok
+returns-in_err-tell_reports-clause-ok g c = rw (passed c.from_residual.result c.in_err-tell_reports.field-0.0 c.from_residual.ensures) tt
+
+pub returns-in_err-tell_reports-clause-counts : goal.returns-in_err-tell_reports-clause-counts
+returns-in_err-tell_reports-clause-counts g c = rw (passed c.from_residual.result c.in_err-tell_reports.field-0.0 c.from_residual.ensures) c.in_err-tell_reports.ensures.counts
+
+pub returns-in-Output-clause-counts : goal.returns-in-Output-clause-counts
+returns-in-Output-clause-counts g c = c.in_ok-tell_reports.ensures.counts
+
+pub returns-in-Itself-clause-counts : goal.returns-in-Itself-clause-counts
+returns-in-Itself-clause-counts g c = c.in_ok-tell_reports.ensures.counts
