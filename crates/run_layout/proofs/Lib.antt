@@ -13,3 +13,4 @@ pub mod RunSteps
 pub mod ShortRows
 pub mod WaitingComments
 pub mod Views
+pub mod Failed

@@ -50,6 +50,5 @@ pub fn lay_out_view(
     let fixed = fixed_of(layout.arena, tokens, plan, run)?;
     let rows = join_of_classes(style, layout.classes, lines, tokens, fixed, run)?;
     lay_out_lines(layout, number, rows, plan, tally, run)?;
-    place_comments(style, tokens, plan, run)?;
-    Ok(())
+    place_comments(style, tokens, plan, run)
 }

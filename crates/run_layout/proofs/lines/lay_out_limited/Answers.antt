@@ -5,6 +5,7 @@ use Rattle.line_walk.specs.Starts.{IsAdmissible}
 use Rattle.break_search.specs.declared.outcome.Outcome.{Outcome}
 use Rattle.line_gaps.specs.InputColumns.{input_before}
 use Rattle.run_layout.proofs.LineOutcomes.{found_admissible, least_laid, open_searched, over_laid}
+use Rattle.run_layout.proofs.Failed.{no_value, not_done}
 use Rattle.run_layout.proofs.lines.lay_out_limited.Goals as goal
 
 pub search-requires : goal.search-requires
@@ -65,4 +66,26 @@ returns-in-OverBudget c =
       len = c.report_line.ensures.len;
       before = omega (arith, c.report_line.ensures.place);
       column = subst (λ k. c.report_line.new.cursor.column ≡ input_before layout.style.now layout.arena.now layout.view.now k) (sym c.report_line.ensures.place) c.report_line.ensures.column;
+    }
+
+pub returns-in_err-breaks : goal.returns-in_err-breaks
+returns-in_err-breaks c =
+    let result = c.from_residual.result in
+    let err = c.from_residual.ensures.0 in
+    record {
+      laid = no_value result _ err;
+      len = not_done result _ err;
+      before = not_done result _ err;
+      column = not_done result _ err;
+    }
+
+pub returns-in_err-write_broken-in-Found : goal.returns-in_err-write_broken-in-Found
+returns-in_err-write_broken-in-Found c =
+    let result = c.from_residual-in_err-write_broken-in-Found.result in
+    let err = c.from_residual-in_err-write_broken-in-Found.ensures.0 in
+    record {
+      laid = no_value result _ err;
+      len = not_done result _ err;
+      before = not_done result _ err;
+      column = not_done result _ err;
     }

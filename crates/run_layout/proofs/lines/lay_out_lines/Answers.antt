@@ -4,6 +4,7 @@ use Rattle.item_classes.specs.Items.{item_at}
 use Rattle.run_layout.proofs.Telling.{stand_for_items}
 use Rattle.run_layout.proofs.RunSteps.{line_done, lines_end, ahead_more, next_needs, first_within, first_among}
 use Rattle.run_layout.proofs.RunSteps.{first_there, first_told}
+use Rattle.run_layout.proofs.Failed.{not_done}
 use Rattle.run_layout.proofs.lines.lay_out_lines.Goals as goal
 
 pub lay_out_line-requires-clause-places : goal.lay_out_line-requires-clause-places
@@ -53,3 +54,36 @@ pub returns-clause-laid : goal.returns-clause-laid
 returns-clause-laid c =
     lines_end c.args.layout.now.style.now c.args.layout.now.budget c.args.layout.now.arena.now c.args.layout.now.view.now c.args.layout.now.tokens.now c.args.number c.args.plan.now c.args.lines.now _ c.args.tally.now c.loop-line.tally c.loop-line.plan
     (drop_of_length-le c.args.lines.now c.loop-line-test.false) c.loop-line.invariant.on
+
+pub returns-in_err-laid : goal.returns-in_err-laid
+returns-in_err-laid c =
+    let result = c.from_residual.result in
+    let err = c.from_residual.ensures.0 in
+    record {
+      laid = not_done result _ err;
+      len = not_done result _ err;
+      room = not_done result _ err;
+      cheap = not_done result _ err;
+      counted = not_done result _ err;
+    }
+
+pub returns-in_err-note_line : goal.returns-in_err-note_line
+returns-in_err-note_line c =
+    let result = c.from_residual-in_err-note_line.result in
+    let err = c.from_residual-in_err-note_line.ensures.0 in
+    record {
+      laid = not_done result _ err;
+      len = not_done result _ err;
+      room = not_done result _ err;
+      cheap = not_done result _ err;
+      counted = not_done result _ err;
+    }
+
+pub returns-clause-len : goal.returns-clause-len
+returns-clause-len c = c.loop-line.invariant.len
+
+pub returns-clause-cheap : goal.returns-clause-cheap
+returns-clause-cheap c = c.loop-line.invariant.cheap
+
+pub returns-clause-counted : goal.returns-clause-counted
+returns-clause-counted c = c.loop-line.invariant.counted

@@ -2,6 +2,7 @@ use Rattle.std.proofs.Common.{◌≡◌, ◌+◌, ◌≤◌, arith, length}
 use Rattle.line_gaps.specs.InputColumns.{input_before}
 use Rattle.run_layout.proofs.LineOutcomes.{above_zero, on_ok}
 use Rattle.run_layout.proofs.RowLines.{tokens_within}
+use Rattle.run_layout.proofs.Failed.{no_value, not_done}
 use Rattle.run_layout.proofs.lines.lay_out_searched.Goals as goal
 
 pub prove-unreachable-requires : goal.prove-unreachable-requires
@@ -65,3 +66,14 @@ returns c = record {
   before = c.lay_out_limited.ensures.before;
   column = c.lay_out_limited.ensures.column;
 }
+
+pub returns-in_err-fixed : goal.returns-in_err-fixed
+returns-in_err-fixed c =
+    let result = c.from_residual.result in
+    let err = c.from_residual.ensures.0 in
+    record {
+      laid = no_value result _ err;
+      len = not_done result _ err;
+      before = not_done result _ err;
+      column = not_done result _ err;
+    }

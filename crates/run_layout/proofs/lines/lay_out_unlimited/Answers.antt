@@ -2,6 +2,7 @@ use Rattle.std.proofs.Common.{subst}
 use Rattle.searched_line.specs.Searched.{line_of}
 use Rattle.line_walk.specs.Starts.{IsAdmissible}
 use Rattle.run_layout.proofs.LineOutcomes.{only_laid, open_searched}
+use Rattle.run_layout.proofs.Failed.{no_value, not_done}
 use Rattle.run_layout.proofs.lines.lay_out_unlimited.Goals as goal
 
 pub least_breaks-requires : goal.least_breaks-requires
@@ -27,3 +28,15 @@ returns c =
           c.in_ok-breaks.breaks.now c.write_broken.new.plan c.requires.limit c.in_ok-breaks.ensures c.in_ok-write_broken.ensures.plan;
       len = c.in_ok-write_broken.ensures.len;
     }
+
+pub returns-in_err-breaks : goal.returns-in_err-breaks
+returns-in_err-breaks c =
+    let result = c.from_residual.result in
+    let err = c.from_residual.ensures.0 in
+    record { laid = no_value result _ err; len = not_done result _ err }
+
+pub returns-in_err-write_broken : goal.returns-in_err-write_broken
+returns-in_err-write_broken c =
+    let result = c.from_residual-in_err-write_broken.result in
+    let err = c.from_residual-in_err-write_broken.ensures.0 in
+    record { laid = no_value result _ err; len = not_done result _ err }
