@@ -454,13 +454,12 @@ fn lay_out_runs(
         if change.end == 0 {
             continue;
         }
-        let least = least_noted(number, count);
-        note_from(&mut known.spans, least);
+        note_from(&mut known.spans, least_noted(number, count));
         let turn = Turn {
             number,
             bound,
             new_end: change.end,
-            later: least.is_some(),
+            later: number + 1 < count,
         };
         lay_out_seen(context, tree, &turn, &mut known, made, &mut ahead, &run)?;
         clear(&mut run, context.alloc);
@@ -486,7 +485,6 @@ pub(crate) fn plan_of<'a>(
     ensures plan { IfOk result (IsPlanned style.now (option_map (λ ranges. ranges.now) ranges.entry) budget arena.now) }
     ensures len { IfOk result (λ made. length made.plan ≡ length arena.now.tokens + 1) }
 {
-    let tree = CondTree::build(arena, sections, bump)?;
     let context = Context {
         alloc,
         style,
@@ -494,12 +492,15 @@ pub(crate) fn plan_of<'a>(
         arena,
         classes: item_classes(arena, bump)?,
     };
+    let tree = CondTree::build(arena, sections, bump)?;
     let mut plan = Plan::make(arena, bump)?;
     decide_early(&context, sections, &tree, ranges, bump, &mut plan)?;
-    let runs = tree.runs();
     let tally = Tally::new(bump);
     let mut made = Made { plan, tally };
     lay_out_runs(&context, &tree, bump, &mut made)?;
-    let Made { plan, tally } = made;
-    Ok(Planned { plan, runs, tally })
+    Ok(Planned {
+        plan: made.plan,
+        runs: tree.runs(),
+        tally: made.tally,
+    })
 }

@@ -47,7 +47,7 @@ returns-clause-plan c =
     record {
       done = told.done;
       planned = planned_by style _ c.args.budget arena _ c.decide_early.new.plan c.lay_out_runs.new.made.plan told.done c.in_ok-plan.ensures c.in_ok-decide_early.ensures.plan told.runs;
-      runs = c.runs-runs.ensures.need ∙ ap (λ (tree : List Mark). need (read tree)) c.in_ok-tree.ensures.marks;
+      runs = c.runs.ensures.need ∙ ap (λ (tree : List Mark). need (read tree)) c.in_ok-tree.ensures.marks;
       reports = told.told.reports ∙ ap (λ (xs : List Report). xs ++ reports_of told.done) begun.reports;
       searched = omega (arith, told.told.searched, begun.searched);
       cost = omega (arith, told.told.cost, begun.cost);
@@ -55,14 +55,14 @@ returns-clause-plan c =
 
 pub returns-in_err-tree : goal.returns-in_err-tree
 returns-in_err-tree c =
-    let result = c.from_residual.result in
-    let err = c.from_residual.ensures.0 in
+    let result = c.from_residual-in_err-tree.result in
+    let err = c.from_residual-in_err-tree.ensures.0 in
     record { plan = no_value result _ err; len = no_value result _ err }
 
 pub returns-in_err-item_classes : goal.returns-in_err-item_classes
 returns-in_err-item_classes c =
-    let result = c.from_residual-in_err-item_classes.result in
-    let err = c.from_residual-in_err-item_classes.ensures.0 in
+    let result = c.from_residual.result in
+    let err = c.from_residual.ensures.0 in
     record { plan = no_value result _ err; len = no_value result _ err }
 
 pub returns-in_err-plan : goal.returns-in_err-plan
