@@ -1,13 +1,13 @@
 use Rattle.std.proofs.Common.{◌≡◌, ◌∙◌, ◌+◌, ◌<◌, ◌≤◌, ℕ, Option, List, length, get_or, sym, ap, subst, arith}
-use Rattle.std.specs.Prelude.{IfSome, IsTrue}
+use Rattle.std.specs.Prelude.{All, IfSome, IsTrue}
 use Rattle.line_tokens.specs.declared.TokenId.{TokenId}
 use Rattle.branch_runs.specs.declared.mark.Mark.{Mark}
 use Rattle.branch_runs.specs.Anew.{items_between}
 use Rattle.branch_runs.specs.Reading.{read}
-use Rattle.branch_runs.specs.Runs.{view_of}
+use Rattle.branch_runs.specs.Runs.{need, view_of}
 use Rattle.part_walk.specs.declared.bodies.BodyPlace.{BodyPlace}
 use Rattle.part_walk.specs.Places.{place_in}
-use Rattle.run_parts.specs.Bounds.{BeginTold}
+use Rattle.run_parts.specs.Bounds.{AreBounds, BeginTold}
 use Rattle.format_core.specs.InStep.{IsBegun}
 use Rattle.format_core.specs.PartByPart.{GoesOnFrom}
 use Rattle.run_parts.specs.Runs.{seen_by}
@@ -166,3 +166,46 @@ returns-in_err-stopped c =
       state = not_done result _ err;
       bounds = not_done result _ err;
     }
+
+pub view_between-requires : goal.view_between-requires
+view_between-requires c = omega (arith, c.requires.number, ap (λ (tree : List Mark). need (read tree)) c.requires.tree.marks)
+
+pub lay_out_window-requires-clause-ready : goal.lay_out_window-requires-clause-ready
+lay_out_window-requires-clause-ready c = c.requires.ready
+
+pub lay_out_window-requires-clause-within : goal.lay_out_window-requires-clause-within
+lay_out_window-requires-clause-within c = subst (λ n. All (λ id. id < n) c.in_ok-view_between.field-0) c.requires.tree.end c.in_ok-view_between.ensures.within
+
+pub lay_out_window-requires-clause-window : goal.lay_out_window-requires-clause-window
+lay_out_window-requires-clause-window c = record {
+  items = c.in_ok-view_between.ensures.view ∙ ap (λ (tree : List Mark). items_between c.loop-window.first c.loop-window.end (view_of (read tree) c.args.turn.now.number)) c.requires.tree.marks;
+  order = c.loop-window.invariant.order;
+}
+
+pub lay_out_window-requires-clause-new : goal.lay_out_window-requires-clause-new
+lay_out_window-requires-clause-new c = c.loop-window.invariant.new
+
+pub lay_out_window-requires-clause-start : goal.lay_out_window-requires-clause-start
+lay_out_window-requires-clause-start c = c.start-way.ensures.first
+
+pub lay_out_window-requires-clause-state : goal.lay_out_window-requires-clause-state
+lay_out_window-requires-clause-state c = c.loop-window.invariant.state
+
+pub lay_out_window-requires-clause-begin : goal.lay_out_window-requires-clause-begin
+lay_out_window-requires-clause-begin c = λ later.
+    let arena = c.args.context.now.arena.now in
+    let seen = seen_by arena c.args.turn.now.number in
+    let place = length (items_between 0 c.loop-window.first seen) in
+    subst (λ (b : Option BodyPlace). BeginTold arena (items_between 0 c.start-way.result.told seen) place (place_in b)) (sym c.start-way.ensures.inside)
+    (subst (λ k. BeginTold arena (items_between 0 k seen) place (place_in c.loop-window.inside)) (sym c.start-way.ensures.told) (c.loop-window.invariant.begin later))
+
+pub lay_out_window-requires-clause-bounds : goal.lay_out_window-requires-clause-bounds
+lay_out_window-requires-clause-bounds c =
+    let arena = c.args.context.now.arena.now in
+    subst (λ k. AreBounds arena (seen_by arena c.args.turn.now.number) c.loop-window.known.bounds.items k) (sym c.start-way.ensures.told) c.loop-window.invariant.bounds
+
+pub returns-in_default-clause-state : goal.returns-in_default-clause-state
+returns-in_default-clause-state c = c.in_ok-stopped.ensures.state
+
+pub returns-in_default-clause-bounds : goal.returns-in_default-clause-bounds
+returns-in_default-clause-bounds c = (c.lay_out_window.new.way.told, c.in_ok-stopped.ensures.bounds)
