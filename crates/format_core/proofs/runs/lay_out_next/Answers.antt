@@ -294,3 +294,29 @@ returns-in_err-lay_out_part c =
       bounds = not_done result _ err;
       same = not_done result _ err;
     }
+
+pub returns-then-window-len-clause-on : goal.returns-then-window-len-clause-on
+returns-then-window-len-clause-on c = λ plan before from.
+    let style = c.args.context.now.style.now in
+    let budget = c.args.context.now.budget in
+    let arena = c.args.context.now.arena.now in
+    let number = c.args.window.now.number in
+    let seen = seen_by arena number in
+    let place = place_before arena number c.args.window.now.first in
+    let here = c.args.made.now.plan in
+    let tally = c.args.made.now.tally in
+    let passed = c.pass_row.ensures in
+    subst (λ k. GoesOnFrom style budget arena number plan seen before here (place_in c.pass_row.new.way.inside) (place + k) tally) (sym (passed.stays c.in_default.is))
+    (subst (λ (b : Option BodyPlace). GoesOnFrom style budget arena number plan seen before here (place_in b) (place + c.args.way.now.first) tally) (sym passed.place) from)
+
+pub returns-then-window-len-clause-room : goal.returns-then-window-len-clause-room
+returns-then-window-len-clause-room c = omega arith
+
+pub returns-then-window-len-clause-within : goal.returns-then-window-len-clause-within
+returns-then-window-len-clause-within c = omega (arith, c.pass_row.ensures.stays c.in_default.is, c.requires.here)
+
+pub returns-then-window-len-clause-none : goal.returns-then-window-len-clause-none
+returns-then-window-len-clause-none c = λ none. omega (arith, c.if-window-len.true, c.len.ensures.count)
+
+pub returns-then-window-len-clause-stays : goal.returns-then-window-len-clause-stays
+returns-then-window-len-clause-stays c = λ none. (c.pass_row.ensures.stays c.in_default.is, c.pass_row.ensures.place, refl)
