@@ -1,17 +1,23 @@
-use Rattle.std.proofs.Common.{◌∙◌, ◌<◌, ℕ, Bool, List, length, subst, sym, ap, arith}
-use Rattle.std.specs.Prelude.{All, slice_range}
+use Rattle.std.proofs.Common.{◌≡◌, ◌∙◌, ◌<◌, ℕ, Bool, false, List, Option, Some, None, length, refl, subst, sym, ap, arith}
+use Rattle.std.specs.Prelude.{All, is_some, slice_range}
 use Rattle.std.specs.Bool.{OnTrue}
 use Rattle.std.proofs.lemmas.Result.{on_ok_weaker}
 use Rattle.line_gaps.specs.OpenGaps.{IsRowDecided}
 use Rattle.view_parts.specs.Parts.{items_before, laid_items}
-use Rattle.part_walk.specs.Places.{place_in}
+use Rattle.part_walk.specs.declared.bodies.BodyPlace.{BodyPlace}
+use Rattle.part_walk.specs.Places.{Place, place_in}
 use Rattle.format_core.specs.RunsTold.{AreItemsTold}
-use Rattle.run_parts.proofs.Parts.{all_decided_of, laid_decided, laid_have, part_within}
+use Rattle.run_parts.proofs.Parts.{all_decided_of, laid_decided, laid_have, part_length, part_within}
 use Rattle.run_parts.proofs.PlacesStand.{laid_few}
 use Rattle.run_parts.proofs.RowsDecided.{own_items, own_segment, row_decided}
 use Rattle.format_core.proofs.RunsTold.{items_told_nothing}
 use Rattle.format_core.proofs.Failed.{not_done}
 use Rattle.format_core.proofs.runs.lay_out_part.Goals as goal
+
+-- outside bodies no place is before a part
+no_place : (inside : Option BodyPlace) → is_some inside ≡ false → place_in inside ≡ None
+no_place None e = refl
+no_place (Some place) e = cc
 
 pub returns-then-is_part_decided-clause-told : goal.returns-then-is_part_decided-clause-told
 returns-then-is_part_decided-clause-told c =
@@ -102,3 +108,31 @@ returns-in_err-laid c =
     let result = c.from_residual.result in
     let err = c.from_residual.ensures.0 in
     record { told = not_done result _ err; made = not_done result _ err; room = not_done result _ err }
+
+pub is_row_decided-requires : goal.is_row_decided-requires
+is_row_decided-requires c = omega (arith, c.in-Some.ensures.below, c.requires.made.whole)
+
+pub lay_out_items-requires-clause-room : goal.lay_out_items-requires-clause-room
+lay_out_items-requires-clause-room c =
+    let view = c.args.window.now.view in
+    let own = own_items c.in-Some.row (slice_range view c.args.first c.args.end) c.in-Some.ensures.items in
+    omega (arith, ap (λ (ids : List ℕ). length ids) (c.from_segments-own.ensures.items ∙ own), part_length view c.args.first c.args.end, c.requires.room, c.requires.some)
+
+pub returns-then-is_none-clause-told : goal.returns-then-is_none-clause-told
+returns-then-is_none-clause-told c =
+    let context = c.args.context.now in
+    let window = c.args.window.now in
+    let plan = c.args.made.now.plan in
+    let tally = c.args.made.now.tally in
+    let after = c.lay_out_items.new.made in
+    let own = own_items c.in-Some.row (slice_range window.view c.args.first c.args.end) c.in-Some.ensures.items in
+    on_ok_weaker c.lay_out_items.result (λ told.
+    subst (λ (begins : Option Place). AreItemsTold context.style.now context.budget context.arena.now window.number plan (laid_items begins window.view c.args.first c.args.end) after.plan tally after.tally)
+    (sym (no_place c.args.inside c.if-is_none.ensures))
+    (subst (λ (ids : List ℕ). AreItemsTold context.style.now context.budget context.arena.now window.number plan ids after.plan tally after.tally) (c.from_segments-own.ensures.items ∙ own) told)) c.lay_out_items.ensures.told
+
+pub returns-then-is_none-clause-room : goal.returns-then-is_none-clause-room
+returns-then-is_none-clause-room c =
+    let view = c.args.window.now.view in
+    let own = own_items c.in-Some.row (slice_range view c.args.first c.args.end) c.in-Some.ensures.items in
+    on_ok_weaker c.lay_out_items.result (λ room. omega (arith, room, ap (λ (ids : List ℕ). length ids) (c.from_segments-own.ensures.items ∙ own), part_length view c.args.first c.args.end, c.requires.some)) c.lay_out_items.ensures.room

@@ -138,3 +138,22 @@ returns-in_err-lay_out_seen c =
     let result = c.from_residual-in_err-lay_out_seen.result in
     let err = c.from_residual-in_err-lay_out_seen.ensures.0 in
     record { told = not_done result _ err; made = not_done result _ err }
+
+pub change_of-change-requires : goal.change_of-change-requires
+change_of-change-requires c =
+    let all : c.runs-count.result ≡ runs_of c.args.context.now.arena.now = c.runs-count.ensures.need ∙ ap (λ (tree : List Mark). need (read tree)) c.requires.tree.marks in
+    record { tree = c.requires.tree.marks; number = omega (arith, c.loop-number-test.true, all) }
+
+pub lay_out_seen-requires-clause-ready : goal.lay_out_seen-requires-clause-ready
+lay_out_seen-requires-clause-ready c = c.requires.ready
+
+pub lay_out_seen-requires-clause-tree : goal.lay_out_seen-requires-clause-tree
+lay_out_seen-requires-clause-tree c = c.requires.tree
+
+pub lay_out_seen-requires-clause-number : goal.lay_out_seen-requires-clause-number
+lay_out_seen-requires-clause-number c =
+    let all : c.runs-count.result ≡ runs_of c.args.context.now.arena.now = c.runs-count.ensures.need ∙ ap (λ (tree : List Mark). need (read tree)) c.requires.tree.marks in
+    omega (arith, c.loop-number-test.true, all)
+
+pub lay_out_seen-requires-clause-new : goal.lay_out_seen-requires-clause-new
+lay_out_seen-requires-clause-new c = c.change_of-change.ensures.end
