@@ -1,5 +1,5 @@
 -- The rest of a list, one element at a time; and results.
-use Rattle.std.proofs.Common.{◌≡◌, ◌<◌, ◌≤◌, ◌+◌, suc, ◌==◌, ◌≢◌, true, false, refl, sym, subst, ℕ, List, [], ◌∷◌, drop, length, get_or, ap, add-one, drop-cons, map, Ok, Err, IfErr, IsErr, IsErrAnd}
+use Rattle.std.proofs.Common.{◌≡◌, ◌<◌, ◌≤◌, ◌+◌, suc, ◌==◌, ◌≢◌, true, false, refl, sym, subst, ℕ, List, [], ◌∷◌, drop, length, get_or, ap, add-one, drop-cons, map, Ok, Err, IsErr, IsErrAnd}
 use Rattle.std.proofs.Common.{arith}
 use Rattle.std.proofs.lemmas.Bool.{eqb-true, false≢true}
 use Rattle.std.proofs.lemmas.Grind.{common_steps}
@@ -21,10 +21,6 @@ rest_end xs i h = grind (arith, common_steps)
 pub passed : {T E : Type 0} (r : Result T E) (e : E) → IsErr r × IsErrAnd r (λ y. y ≡ e) → r ≡ Err e
 passed (Ok v) e h = absurd h.1
 passed (Err y) e h = rw h.1
-
-pub if_err : {T E : Type 0} (P : Type 0) (r : Result T E) → P → IfErr r (λ _. P)
-if_err P (Ok v) p = tt
-if_err P (Err e) p = p
 
 -- whether a list of this length is empty
 pub none_of : {A : Type 0} (xs : List A) (n : ℕ) → n ≡ length xs → (n == 0) ≡ true → xs ≡ []
