@@ -1,12 +1,11 @@
 //! The top call.
 
-ghost use Rattle.std.specs.Prelude.{◌≡◌, ◌&&◌, ◌≢◌, ◌⊎◌, ◌<◌, ◌≤◌, ℕ, List, IfErr, IfOk, Ok, false, map, string_bytes};
+ghost use Rattle.std.specs.Prelude.{◌≡◌, ◌&&◌, ◌≢◌, ◌⊎◌, ◌<◌, ◌≤◌, ℕ, IfErr, IfOk, false, map, string_bytes};
 ghost use Rattle.std.specs.Io.KnownBytes.{Appends, Keeps};
 ghost use Rattle.fmt_ports.specs.Causes.{AppendsPart, Rose};
 ghost use Rattle.fmt_ports.specs.Files.{KeepsAll};
 ghost use Rattle.style_table.specs.Range.{IsInRange};
 ghost use Rattle.style_config.specs.Dump.{dump_text};
-ghost use Rattle.command_words.specs.Said.{Reads};
 ghost use Rattle.format_cli.specs.Account.{EndsWell, IsNotPerformed, IsPerformedWith, IsRefused};
 ghost use Rattle.format_cli.specs.Account.{outcome_of, outcome_status, place_of, world};
 ghost use Rattle.format_cli.specs.Causes.{IsRefusedFor};
@@ -132,46 +131,6 @@ fn asks_for_changes(said: &Words) -> bool
     said.dry_run && said.werror
 }
 
-/// Reads the style, and does what the words ask for.
-fn answer<'w, S: Source, K: Sink, E: Sink, F: Files>(
-    alloc: Global,
-    said: &Words<'w>,
-    source: &mut S,
-    out: &mut K,
-    notes: &mut E,
-    files: &mut F,
-) -> Result<Outcome, Refusal<'w>>
-    requires budget { said.now.budget ≤ 16000000 }
-    ensures done { (words : List (List ℕ)) → Reads words (Ok said.now) →
-        IfOk result (λ outcome.
-        EndsWell words
-        (world (S.left source.old) (K.taken out.old) (F.holds files.old) (E.taken notes.old))
-        (world (S.left source.new) (K.taken out.new) (F.holds files.new) (E.taken notes.new))
-        (outcome_status outcome)) }
-    ensures refused { (words : List (List ℕ)) → Reads words (Ok said.now) →
-        IfErr result (IsRefused words
-        (world (S.left source.old) (K.taken out.old) (F.holds files.old) (E.taken notes.old))
-        (world (S.left source.new) (K.taken out.new) (F.holds files.new) (E.taken notes.new))) }
-    ensures counts { Counted (record {
-      source = S.faults source.old;
-      out = K.faults out.old;
-      notes = E.faults notes.old;
-      files = F.faults files.old;
-      misses = F.misses files.old;
-    })
-        (record {
-          source = S.faults source.new;
-          out = K.faults out.new;
-          notes = E.faults notes.new;
-          files = F.faults files.new;
-          misses = F.misses files.new;
-        }) result }
-{
-    let style = style_in_force(alloc, said.style, notes, files)?;
-    let changes = perform(alloc, said, &style, source, out, notes, files)?;
-    Ok(outcome_of(asks_for_changes(said), changes))
-}
-
 /// Reads the words and the style, and does what they ask for.
 fn run<'w, S: Source, K: Sink, E: Sink, F: Files>(
     alloc: Global,
@@ -204,10 +163,13 @@ fn run<'w, S: Source, K: Sink, E: Sink, F: Files>(
           misses = F.misses files.new;
         }) result }
 {
-    match read_words(alloc, words) {
-        Ok(said) => answer(alloc, &said, source, out, notes, files),
-        Err(fault) => Err(refusal_of(fault)),
-    }
+    let said = match read_words(alloc, words) {
+        Ok(said) => said,
+        Err(fault) => return Err(refusal_of(fault)),
+    };
+    let style = style_in_force(alloc, said.style, notes, files)?;
+    let changes = perform(alloc, &said, &style, source, out, notes, files)?;
+    Ok(outcome_of(asks_for_changes(&said), changes))
 }
 
 /// Formats the inputs that the words name, in the style that they choose, and answers the exit status.
