@@ -9,7 +9,7 @@ use Rattle.token_classes.specs.declared.class.TokenClass.{TokenClass}
 use Rattle.token_classes.specs.declared.class.TokenClass.TheVariants.{OpenRound, CloseRound, OpenSquare, CloseSquare}
 use Rattle.token_classes.specs.declared.class.TokenClass.TheVariants.{OpenBrace, CloseBrace, Else}
 use Rattle.token_classes.specs.Classes.{is_bracket, is_call_word, is_comment, is_control, is_else, is_open_brace}
-use Rattle.token_classes.specs.Classes.{is_open_round, is_semicolon, is_word}
+use Rattle.token_classes.specs.Classes.{is_open_round, is_opener, is_semicolon, is_word}
 use Rattle.item_classes.specs.Viewed.{item_class}
 use Rattle.token_classes.specs.declared.pairing.Opener.{Opener}
 use Rattle.token_classes.specs.Partners.{Matching}
@@ -46,11 +46,16 @@ or_false : (b : Bool) → b ≡ b || false
 or_false true = refl
 or_false false = refl
 
+no_opener : (class : TokenClass) → is_bracket class ≡ false → is_opener class ≡ false
+no_opener OpenRound is = cc
+no_opener OpenSquare is = cc
+no_opener OpenBrace is = cc
+no_opener _ is = refl
+
 pub quiet_waits : (class : TokenClass) (place : ℕ) (waiting : List Opener) → is_bracket class ≡ false → waiting ≡ waiting_behind class place waiting
 quiet_waits class place waiting is =
     ap (λ (m : Matching). m.open_brackets)
-    (other_step class (place + 1) (record { open_brackets = waiting; partners = [] }) (λ e. none OpenRound e refl) (λ e. none CloseRound e refl) (λ e. none OpenSquare e refl) (λ e. none CloseSquare e refl) (λ e. none OpenBrace e refl)
-    (λ e. none CloseBrace e refl))
+    (other_step class (place + 1) (record { open_brackets = waiting; partners = [] }) (no_opener class is) (λ e. none CloseRound e refl) (λ e. none CloseSquare e refl) (λ e. none CloseBrace e refl))
   where
     none : (kind : TokenClass) → class ≡ kind → is_bracket kind ≡ true → ⊥
     none kind e bracket = differ (sym bracket ∙ (ap (λ (c : TokenClass). is_bracket c) (sym e) ∙ is))
