@@ -80,8 +80,10 @@ class Tokens:
 
     def __init__(self, text):
         self.text, self.found, self.comments, self.rows = text, [], [], None
-        # Whether the line is a directive, which brackets wait, and whether the text may change when formatted again.
+        # Whether the line is a directive, which brackets wait outside directives and in this one, and whether the text
+        # may change when formatted again.
         self.in_directive, self.waiting, self.may_change = False, [], b"::" in text or STAYS.search(text)
+        self.waiting_here = []
         self.is_read_otherwise = is_read_otherwise(text)
         # The line begins with white space that clang takes for its first token.
         self.is_begun = False
@@ -122,14 +124,16 @@ class Tokens:
     def look(self, kind, begins):
         """Sees a `#` in a text, and a brace inside parentheses or brackets, which may keep the bytes behind it."""
         if begins:
-            self.in_directive = kind == b"hash"
+            self.in_directive, self.waiting_here = kind == b"hash", []
         elif kind == b"hash" and not self.in_directive:
             self.may_change = True
+        # What a directive closes waits on in the text around it.
+        waiting = self.waiting_here if self.in_directive else self.waiting
         if kind in (b"l_paren", b"l_square"):
-            self.waiting.append(kind)
-        elif kind in (b"r_paren", b"r_square") and self.waiting and self.waiting[-1][2:] == kind[2:]:
-            self.waiting.pop()
-        elif kind == b"l_brace" and self.waiting:
+            waiting.append(kind)
+        elif kind in (b"r_paren", b"r_square") and waiting and waiting[-1][2:] == kind[2:]:
+            waiting.pop()
+        elif kind == b"l_brace" and waiting:
             self.may_change = True
 
     def open_comment(self):
