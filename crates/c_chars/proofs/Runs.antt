@@ -1,11 +1,11 @@
 -- Runs of bytes that are characters by themselves.
-use Rattle.std.proofs.Common.{◌≡◌, ◌==◌, ◌&&◌, not, cond, ℕ, suc, ◌+◌, ◌-◌, ◌≤◌, ◌<◌, add-one, arith, drop-cons, length, get_or, Bool, true, false, List, [], ◌∷◌, ◌++◌, take, drop, refl, sym, ◌∙◌, ap, subst, inl, inr}
+use Rattle.std.proofs.Common.{◌≡◌, ◌==◌, ◌&&◌, not, cond, nat_le, ℕ, suc, ◌+◌, ◌-◌, ◌≤◌, ◌<◌, add-one, arith, drop-cons, length, get_or, Bool, true, false, List, [], ◌∷◌, ◌++◌, take, drop, refl, sym, ◌∙◌, ap, subst, inl, inr}
 use Rattle.std.specs.List.{list_all, prefix_len}
 use Rattle.std.proofs.lemmas.List.{length-drop, take_all}
 use Rattle.std.proofs.lemmas.List.Folds.{length-prefix_len}
 use Rattle.std.proofs.lemmas.Bool.{and_parts, and_from, and_right, cases_Bool, not-true}
 use Rattle.std.proofs.lemmas.Bool.Decides.{nat_tests}
-use Rattle.c_chars.specs.Characters.{bytes_of, chars, placed, IsUnit, begins_trigraph, begins_return, has_trigraphs, is_comment_byte, is_comment_ink, is_ink_byte, is_plain, is_space_byte, is_text_byte, is_word_byte}
+use Rattle.c_chars.specs.Characters.{bytes_of, chars, placed, IsUnit, begins_trigraph, begins_return, has_trigraphs, is_comment_byte, is_comment_ink, is_ink_byte, is_plain, is_quiet_byte, is_space_byte, is_text_byte, is_word_byte}
 use Rattle.c_chars.specs.Coming.{Coming, AreBytesPassed, ArePassed, AreSpacesPassed}
 use Rattle.c_chars.specs.declared.Dialect.{Dialect}
 use Rattle.c_chars.specs.declared.LogicalChar.{LogicalChar}
@@ -76,6 +76,10 @@ run_passed p d d2 at at2 n s rest plain e dd aa rr =
 pub text_plain : (b : ℕ) → is_text_byte b ≡ true → is_plain b ≡ true
 unfolding is_text_byte is_ink_byte is_space_byte
 text_plain b h = grind (arith, nat_tests)
+
+pub quiet_plain : (b : ℕ) → is_quiet_byte b ≡ true → is_plain b ≡ true
+unfolding is_quiet_byte
+quiet_plain b h = text_plain b (and_parts (is_text_byte b) (nat_le 32 b && nat_le b 126) h).0
 
 pub comment_plain : (b : ℕ) → is_comment_byte b ≡ true → is_plain b ≡ true
 unfolding is_comment_byte is_comment_ink is_space_byte

@@ -2,9 +2,9 @@
 
 ghost use Rattle.std.specs.Prelude.{◌≡◌, ◌==◌, ◌<◌, ◌≤◌, false, get_or, length, take, if◌then◌else◌, IsTrue};
 ghost use Rattle.std.specs.List.{prefix_len};
-ghost use Rattle.c_chars.specs.Characters.{are_words, is_plain, is_space_byte, is_word_byte};
+ghost use Rattle.c_chars.specs.Characters.{are_words, is_plain, is_quiet_byte, is_space_byte, is_word_byte};
 
-use crate::lanes::{ByteClass, CommentBytes, SpaceBytes, WordBytes};
+use crate::lanes::{ByteClass, CommentBytes, QuietBytes, SpaceBytes, WordBytes};
 use std::simd::prelude::*;
 
 /// What a table tells of a byte.
@@ -180,4 +180,12 @@ pub(crate) fn words_len(bytes: &[u8]) -> usize
         len -= 1;
     }
     len
+}
+
+/// How many printable bytes of strings these begin with, however many.
+#[inline(never)]
+pub(crate) fn quiet_len(bytes: &[u8]) -> usize
+    ensures { result ≡ prefix_len is_quiet_byte bytes.now }
+{
+    run_len::<QuietBytes>(bytes)
 }

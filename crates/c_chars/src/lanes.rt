@@ -2,7 +2,8 @@
 
 ghost use Rattle.std.specs.Prelude.{◌≡◌, ℕ, Bool, map, not};
 ghost use Rattle.std.specs.Simd.Lanes.{mask_l};
-ghost use Rattle.c_chars.specs.Characters.{is_comment_byte, is_space_byte, is_text_byte, is_word_byte};
+ghost use Rattle.c_chars.specs.Characters.{is_comment_byte, is_quiet_byte, is_space_byte, is_text_byte};
+ghost use Rattle.c_chars.specs.Characters.{is_word_byte};
 
 use std::simd::prelude::*;
 
@@ -74,5 +75,21 @@ impl ByteClass for TextBytes {
         let quote = sixteen.simd_eq(u8x16::splat(b'"')) | sixteen.simd_eq(u8x16::splat(b'\''));
         let written = sixteen.simd_eq(u8x16::splat(b'?')) | sixteen.simd_eq(u8x16::splat(b'\\'));
         (control | star | quote | written).to_bitmask()
+    }
+}
+
+/// Printable bytes of strings.
+pub(crate) struct QuietBytes;
+
+impl ByteClass for QuietBytes {
+    ghost holds = { is_quiet_byte };
+
+    #[inline(always)]
+    fn stops(sixteen: u8x16) -> u64 {
+        let unprintable = (sixteen - u8x16::splat(b' ')).simd_ge(u8x16::splat(95));
+        let star = sixteen.simd_eq(u8x16::splat(b'*'));
+        let quote = sixteen.simd_eq(u8x16::splat(b'"')) | sixteen.simd_eq(u8x16::splat(b'\''));
+        let written = sixteen.simd_eq(u8x16::splat(b'?')) | sixteen.simd_eq(u8x16::splat(b'\\'));
+        (unprintable | star | quote | written).to_bitmask()
     }
 }

@@ -2,11 +2,13 @@
 
 ghost use Rattle.std.specs.Prelude.{◌≡◌, ◌+◌, ◌<◌, ◌≤◌, ◌^◌, length, drop, MatchOption, Some, IfSome, IfNone, ◌∷◌, []};
 ghost use Rattle.std.specs.Prelude.{slice_get};
-ghost use Rattle.c_chars.specs.Characters.{logical, mark_len, is_comment_byte, is_text_byte, is_word_byte};
+ghost use Rattle.c_chars.specs.Characters.{logical, mark_len, is_comment_byte, is_quiet_byte, is_text_byte, is_word_byte};
 ghost use Rattle.c_chars.specs.Coming.{AreBetween, AreBytesPassed, ArePassed, AreSpacesPassed, AreWordsPassed};
 
 use crate::alone::first_character;
-use crate::classes::{first_space_len, is_plain, run_len, space_len, word_len, words_len};
+use crate::classes::{
+    first_space_len, is_plain, quiet_len, run_len, space_len, word_len, words_len,
+};
 use crate::front::behind;
 use crate::lanes::{CommentBytes, TextBytes};
 use crate::{Dialect, LIMIT, LogicalChar};
@@ -256,6 +258,19 @@ impl<'s> Chars<'s> {
         ensures { ArePassed is_text_byte self.old self.new }
     {
         let len = run_len::<TextBytes>(self.cursor.rest());
+        self.cursor.pass(len);
+    }
+
+    /// Steps behind the printable characters of ASCII that come next and are none of `"'*?\\`, in one pass over their
+    /// bytes: what most literals and short comments are made of.
+    ///
+    /// It may stop before a further one, where lines are spliced between the two.
+    #[inline(always)]
+    pub fn pass_quiet(&mut self)
+        ensures passed { ArePassed is_quiet_byte self.old self.new }
+        ensures bytes { AreBytesPassed is_quiet_byte self.old self.new }
+    {
+        let len = quiet_len(self.cursor.rest());
         self.cursor.pass(len);
     }
 

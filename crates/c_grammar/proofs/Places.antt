@@ -9,7 +9,7 @@ use Rattle.c_chars.specs.Coming.{Coming, AreBetween, passed, behind}
 use Rattle.c_chars.specs.declared.Dialect.{Dialect}
 use Rattle.c_chars.specs.declared.LogicalChar.{LogicalChar}
 use Rattle.c_grammar.specs.Grammar.{is_same}
-use Rattle.c_grammar.specs.Items.{Place, LineStart, AfterHash, AfterInclude, AfterDefine, AfterMacroName, InDirective, InText, is_hash, past_item}
+use Rattle.c_grammar.specs.Items.{Place, LineStart, AfterHash, AfterInclude, AfterDefine, AfterMacroName, InDirective, InText, is_hash, past_comment, past_item}
 use Rattle.c_grammar.specs.Touch.{starts}
 use Rattle.item_kinds.specs.declared.ItemKind.{ItemKind}
 use Rattle.item_kinds.specs.declared.ItemKind.TheVariants.{Identifier, Number, CharConst, StringLit, Punct, HeaderName, StrayQuote, Other, BlockComment, LineComment}
@@ -188,6 +188,9 @@ plain_place d InText Other s h = refl
 
 pub told_other : (d : Dialect) (p : Place) (k : ItemKind) (f : ℕ) (past : Standing) → is_plain k ≡ true → place_of past ≡ past_plain p → IsToldPlace d p k f (Some past)
 told_other d p k f past plain h = λ s first. h ∙ plain_place d p k s plain
+
+pub told_comment : (d : Dialect) (p : Place) (f : ℕ) (past : Standing) → place_of past ≡ past_comment p → IsToldPlace d p BlockComment f (Some past)
+told_comment d p f past h = λ s first. h
 
 -- a character that reaches up to what is left of the text, and is a hash
 hash_there : (d : Dialect) (at high n : ℕ) (s : List LogicalChar) (c : LogicalChar) → AreBetween at s high → slice_get s 0 ≡ Some c → c.byte ≡ 35 → n ≤ length s → c.to ≡ (passed d at s n).at

@@ -251,14 +251,10 @@ fn past_plain(dialect: Dialect, standing: Standing, kind: ItemKind, first: u8) -
     match kind {
         ItemKind::Identifier => past_plain_word(standing),
         ItemKind::Punct => past_plain_mark(standing, first),
-        ItemKind::Number => Some(past_other(standing)),
-        ItemKind::CharConst
-        | ItemKind::StringLit
-        | ItemKind::HeaderName
-        | ItemKind::StrayQuote
-        | ItemKind::Other
-        | ItemKind::BlockComment
-        | ItemKind::LineComment => None,
+        ItemKind::Number | ItemKind::CharConst | ItemKind::StringLit => Some(past_other(standing)),
+        ItemKind::BlockComment => Some(past_comment(standing)),
+        ItemKind::HeaderName | ItemKind::StrayQuote | ItemKind::Other | ItemKind::LineComment =>
+            None,
     }
 }
 

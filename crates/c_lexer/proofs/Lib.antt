@@ -26,3 +26,4 @@ pub mod Lexemes
 pub mod Plains
 pub mod PlainNumbers
 pub mod PlainBytes
+pub mod Quiet

@@ -114,7 +114,7 @@ placed_there text at (b ∷ bytes) rest h within =
 
 -- Bytes that passed.
 
-each : (p q : ℕ → Bool) (s : List ℕ) → ((b : ℕ) → p b ≡ true → q b ≡ true) → list_all p s ≡ true → list_all q s ≡ true
+pub each : (p q : ℕ → Bool) (s : List ℕ) → ((b : ℕ) → p b ≡ true → q b ≡ true) → list_all p s ≡ true → list_all q s ≡ true
 each p q [] more h = refl
 each p q (b ∷ s) more h = let parts = and_parts (p b) (list_all p s) h in and_from (q b) (list_all q s) (more b parts.0) (each p q s more parts.1)
 
@@ -136,7 +136,7 @@ one_passed p x z y c chars at from to holds r =
       at_is = omega (arith, len, there, at, to);
     }
 
-next_passed : (d : Dialect) (at : ℕ) (s : List LogicalChar) (e : LogicalChar) → slice_get s 0 ≡ Some e → (s ≡ e ∷ drop 1 s) × (passed d at s 1 ≡ record { dialect = d; at = e.to; chars = drop 1 s })
+pub next_passed : (d : Dialect) (at : ℕ) (s : List LogicalChar) (e : LogicalChar) → slice_get s 0 ≡ Some e → (s ≡ e ∷ drop 1 s) × (passed d at s 1 ≡ record { dialect = d; at = e.to; chars = drop 1 s })
 next_passed d at [] e h = cc
 next_passed d at (f ∷ s) e h = let same : f ≡ e = cc in (ap (λ z. z ∷ s) same, ap (λ (z : LogicalChar). record { dialect = d; at = z.to; chars = s }) same)
 

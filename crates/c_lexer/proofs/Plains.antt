@@ -70,7 +70,7 @@ lone_other c h = (grind (arith, nat_tests), grind (arith, nat_tests), grind (ari
 no_number : (c : ℕ) (s t : List ℕ) → s ≡ c ∷ t → is_digit c ≡ false → (c == 46 && starts is_digit t) ≡ false → begins_number s ≡ false
 no_number c s t whole digit point = ap begins_number whole ∙ rw (digit, point) refl
 
-no_pair : (a b c : ℕ) (s t : List ℕ) → s ≡ c ∷ t → starts (λ e. b == e) t ≡ false → starts_with nat_eq s (a ∷ b ∷ []) ≡ false
+pub no_pair : (a b c : ℕ) (s t : List ℕ) → s ≡ c ∷ t → starts (λ e. b == e) t ≡ false → starts_with nat_eq s (a ∷ b ∷ []) ≡ false
 no_pair a b c s t whole second = ap (λ z. starts_with nat_eq z (a ∷ b ∷ [])) whole ∙ at t second
   where
     at : (t : List ℕ) → starts (λ e. b == e) t ≡ false → starts_with nat_eq (c ∷ t) (a ∷ b ∷ []) ≡ false

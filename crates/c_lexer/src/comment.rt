@@ -1,12 +1,17 @@
 //! Comments (C11 6.4.9).
 
-ghost use Rattle.std.specs.Prelude.{◌≡◌, ◌==◌, ◌≤◌, ◌&&◌, length, false, IsTrue, IsFalse, MatchOption};
+ghost use Rattle.std.specs.Prelude.{◌≡◌, ◌==◌, ◌≤◌, ◌+◌, ◌&&◌, length, false, slice_get, Some, IfSome, IsTrue};
+ghost use Rattle.std.specs.Prelude.{IsFalse, MatchOption};
 ghost use Rattle.c_chars.specs.Characters.{bytes_of};
 ghost use Rattle.c_chars.specs.Coming.{behind};
+ghost use Rattle.item_kinds.specs.declared.ItemKind.TheVariants.{BlockComment};
+ghost use Rattle.c_lexer.specs.Cut.{IsCutOff};
+ghost use Rattle.c_lexer.specs.Reading.{AreOwnBytes, IsBegun};
 ghost use Rattle.c_lexer.specs.Comment.{closes_block, block_len, line_len};
 
-use crate::line;
-use c_chars::Chars;
+use crate::line::Begun;
+use crate::{front, line};
+use c_chars::{Chars, LogicalChar};
 use c_grammar::bytes;
 
 /// Whether this byte ends a block comment, behind a star or not.
@@ -79,4 +84,28 @@ pub(crate) fn behind_line<'s>(text: &Chars<'s>) -> Chars<'s>
         }
     }
     if last == b'\\' { rest } else { kept }
+}
+
+/// What stands behind the block comment that is begun, where it has only printable bytes that tell nothing else and plain
+/// ones end it; none elsewhere. `second` is the character behind its first.
+#[inline(always)]
+pub(crate) fn cut_plain_block<'s>(begun: &Begun<'s>, second: LogicalChar) -> Option<Chars<'s>>
+    requires begun { IsBegun begun.now.text begun.now.first begun.now.behind }
+    requires second { slice_get begun.now.behind.chars 0 ≡ Some second }
+    requires plain { (second.from ≡ begun.now.behind.at) × (second.to ≡ begun.now.behind.at + 1) }
+    ensures off { IfSome result (λ left. IsCutOff begun.now.text left BlockComment) }
+    ensures plain { IfSome result (λ left. AreOwnBytes begun.now.first begun.now.behind left) }
+{
+    if begun.first.byte != b'/' || second.byte != b'*' {
+        return None;
+    }
+    let mut left = front::behind(&begun.behind, 1);
+    left.pass_quiet();
+    let star = left.next_plain()?;
+    let slash = left.next_plain()?;
+    if star.byte == b'*' && slash.byte == b'/' {
+        Some(left)
+    } else {
+        None
+    }
 }

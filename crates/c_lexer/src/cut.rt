@@ -146,8 +146,24 @@ fn cut_plain_shift<'s>(
     }
 }
 
-/// The punctuator that is begun and what stands behind it, where its first byte and plain bytes behind it
-/// tell how long it is; none elsewhere.
+/// The block comment of quiet bytes that is begun, whose second byte is this one, and what stands behind it; none
+/// elsewhere.
+#[inline(always)]
+fn cut_plain_comment<'s>(begun: &Begun<'s>, second: LogicalChar) -> Option<(ItemKind, Chars<'s>)>
+    requires begun { IsBegun begun.now.text begun.now.first begun.now.behind }
+    requires second { slice_get begun.now.behind.chars 0 ≡ Some second }
+    requires plain { (second.from ≡ begun.now.behind.at) × (second.to ≡ begun.now.behind.at + 1) }
+    ensures off { IfSome result (λ r. IsCutOff begun.now.text r.1 r.0) }
+    ensures plain { IfSome result (λ r. AreOwnBytes begun.now.first begun.now.behind r.1) }
+{
+    match comment::cut_plain_block(begun, second) {
+        Some(left) => Some((ItemKind::BlockComment, left)),
+        None => None,
+    }
+}
+
+/// The punctuator, literal or comment that is begun and what stands behind it, where its first byte and plain bytes
+/// behind it tell how long it is; none elsewhere.
 #[inline(always)]
 fn cut_plain_mark<'s>(dialect: Dialect, begun: &Begun<'s>) -> Option<(ItemKind, Chars<'s>)>
     requires dialect { dialect ≡ begun.now.text.dialect }
@@ -158,7 +174,7 @@ fn cut_plain_mark<'s>(dialect: Dialect, begun: &Begun<'s>) -> Option<(ItemKind, 
     let first = begun.first.byte;
     let left = begun.behind.ahead();
     if !punctuator::begins_long(first) {
-        return None;
+        return quote::cut_plain_quote(begun);
     }
     match left.peek_plain() {
         Some(second) => {
@@ -174,15 +190,15 @@ fn cut_plain_mark<'s>(dialect: Dialect, begun: &Begun<'s>) -> Option<(ItemKind, 
             if punctuator::is_alone(first, second.byte) {
                 Some((ItemKind::Punct, left))
             } else {
-                None
+                cut_plain_comment(begun, second)
             }
         }
         None => None,
     }
 }
 
-/// The item that is begun, where it is a word, a number or a punctuator of plain bytes and one behind it
-/// ends it; none elsewhere.
+/// The item that is begun, where it is a word, a number or a punctuator of plain bytes and one behind it ends it, or a
+/// literal or a block comment of printable bytes that tell nothing else; none elsewhere.
 #[inline(always)]
 pub(crate) fn cut_plain<'s>(dialect: Dialect, begun: &Begun<'s>) -> Option<(ItemKind, Chars<'s>)>
     requires dialect { dialect ≡ begun.now.text.dialect }

@@ -143,7 +143,7 @@ impl<'s> Lexer<'s> {
 
     /// The next item, with what it and its gap tell, whatever it is written as; none exactly where no item is
     /// left.
-    #[inline(never)]
+    #[inline(always)]
     pub fn next_any(&mut self) -> Result<Option<Lexeme<'s>>, LexFault>
         ensures text { self.new.text ≡ self.old.text }
         ensures dialect { self.new.dialect ≡ self.old.dialect }
@@ -183,9 +183,10 @@ impl<'s> Lexer<'s> {
         }
     }
 
-    /// The next item, with what it and its gap tell, where it is a word, a number or a punctuator that plain bytes
-    /// tell at once, each of them a printable character of ASCII that nothing behind it can change; none elsewhere,
-    /// where the reader stays. It calls nothing but what tells the name of a directive.
+    /// The next item, with what it and its gap tell, where it is a word, a number, a punctuator, a literal or a block
+    /// comment that plain bytes tell at once, each of them a printable character of ASCII that nothing behind it can
+    /// change; none elsewhere, where the reader stays. It calls nothing but what tells the name of a directive, and how
+    /// far a literal, a comment or a long word reaches.
     #[inline(always)]
     pub fn next_plain_lexeme(&mut self) -> Option<Lexeme<'s>>
         ensures text { self.new.text ≡ self.old.text }

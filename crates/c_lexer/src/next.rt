@@ -38,6 +38,7 @@ fn cut_header<'s>(standing: Standing, text: &Chars<'s>) -> Option<Chars<'s>>
 }
 
 /// The item that stands next in the text, which begins with this byte, and what stands behind it.
+#[inline(never)]
 pub(crate) fn cut_next<'s>(
     dialect: Dialect,
     standing: Standing,
@@ -64,8 +65,8 @@ fn is_behind_include(standing: Standing) -> bool
     matches!(standing, Standing::BehindInclude)
 }
 
-/// The item that is begun and what stands behind it, where it is a word, a number or a punctuator of plain
-/// bytes and no header name may stand here; none elsewhere.
+/// The item that is begun and what stands behind it, where plain bytes tell it and no header name may stand here; none
+/// elsewhere.
 #[inline(always)]
 pub(crate) fn cut_begun<'s>(
     dialect: Dialect,

@@ -1,14 +1,18 @@
 //! What stands behind a quote, and header names.
 
-ghost use Rattle.std.specs.Prelude.{◌≡◌, ◌==◌, ◌≤◌, ◌&&◌, length, not, true, false, IsTrue, IsFalse, MatchOption};
+ghost use Rattle.std.specs.Prelude.{◌≡◌, ◌==◌, ◌≤◌, ◌&&◌, length, not, true, false, IfSome, IsTrue, IsFalse};
+ghost use Rattle.std.specs.Prelude.{MatchOption};
 ghost use Rattle.c_chars.specs.Characters.{bytes_of};
 ghost use Rattle.c_chars.specs.Coming.{behind};
 ghost use Rattle.c_lexer.specs.Quote.{closes_quote, quote_len};
+ghost use Rattle.c_lexer.specs.Cut.{IsCutOff};
+ghost use Rattle.c_lexer.specs.Reading.{AreOwnBytes, IsBegun};
 ghost use Rattle.c_lexer.specs.Header.{ends_name, name_len, begins_header, header_len};
 
+use crate::line::Begun;
 use crate::{front, line};
 use c_chars::Chars;
-use c_grammar::bytes;
+use c_grammar::{ItemKind, bytes};
 
 /// Whether the byte is this one, and no backslash takes its meaning.
 #[inline(always)]
@@ -84,4 +88,30 @@ pub(crate) fn behind_header<'s>(text: &Chars<'s>) -> Option<Chars<'s>>
         return behind_name(&front::behind(text, 1), b'"');
     }
     None
+}
+
+/// The literal that is begun and what stands behind it, where it has only printable bytes that tell nothing else and a
+/// plain quote ends it; none elsewhere.
+#[inline(always)]
+pub(crate) fn cut_plain_quote<'s>(begun: &Begun<'s>) -> Option<(ItemKind, Chars<'s>)>
+    requires begun { IsBegun begun.now.text begun.now.first begun.now.behind }
+    ensures off { IfSome result (λ r. IsCutOff begun.now.text r.1 r.0) }
+    ensures plain { IfSome result (λ r. AreOwnBytes begun.now.first begun.now.behind r.1) }
+{
+    let quote = begun.first.byte;
+    let second = begun.behind.peek_plain()?;
+    let mut left = begun.behind.ahead();
+    if !bytes::is_quote_mark(quote) || second.byte == b'\'' {
+        return None;
+    }
+    left.pass_quiet();
+    let last = left.next_plain()?;
+    if last.byte != quote {
+        return None;
+    }
+    if quote == b'\'' {
+        Some((ItemKind::CharConst, left))
+    } else {
+        Some((ItemKind::StringLit, left))
+    }
 }
