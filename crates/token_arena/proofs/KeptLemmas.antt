@@ -11,7 +11,7 @@ use Rattle.c_grammar.specs.Text.{ReadItem, Left, IsStep, IsReadUpTo, start_of, e
 use Rattle.c_grammar.proofs.Reading.{begun, stepped, ended}
 use Rattle.token_arena.specs.Stored.{Stored, stored_of, stored_from, stored_items}
 use Rattle.token_arena.specs.Gaps.{Stands, StandFrom, behind}
-use Rattle.token_arena.specs.Entries.{kept_by, kept_from, kept_by_all, AllWithin, AreEntries, ArePlain, IsPlain}
+use Rattle.token_arena.specs.Entries.{kept_by, kept_from, kept_by_all, AllWithin, AreEntries, ArePlain, IsPlain, comments_kept}
 use Rattle.token_arena.specs.declared.arena.Entry.{Entry}
 use Rattle.c_chars.proofs.Spans.{Ascend, chars_ascend}
 use Rattle.token_arena.proofs.EntryLemmas.{length_kept}
@@ -182,9 +182,10 @@ kept_step d text old new entries entry at at2 read before step span told room pl
       plain = All-append (IsPlain text) entries (entry ∷ []) before.plain (λ k other below. let first : k ≡ 0 = omega arith in rw first plain);
     }
 
-pub kept_ended : (d : Dialect) (text : List ℕ) (left : Left) (entries : List Entry) (at : ℕ) → length text ≤ LIMIT → IsKeptUpTo d text left entries at
-    → is_gap (bytes_of left.chars) ≡ true → AreEntries text d entries
-kept_ended d text left entries at fits all gap = record {
+pub kept_ended : (d : Dialect) (text : List ℕ) (left : Left) (entries : List Entry) (comments : List ℕ) (at : ℕ) → length text ≤ LIMIT → IsKeptUpTo d text left entries at
+    → is_gap (bytes_of left.chars) ≡ true → comments ≡ comments_kept 0 entries → AreEntries text d entries comments
+kept_ended d text left entries comments at fits all gap remarks = record {
+  comments_are = remarks;
   within = all.within;
   plain = all.plain;
   sound = record {

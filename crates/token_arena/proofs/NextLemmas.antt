@@ -5,7 +5,7 @@ use Rattle.c_chars.specs.declared.Dialect.{Dialect}
 use Rattle.c_grammar.specs.Text.{IsStep, Left, start_of, end_of, raw_of}
 use Rattle.c_chars.specs.declared.LogicalChar.{LogicalChar}
 use Rattle.c_chars.proofs.Spans.{Ascend}
-use Rattle.c_chars.specs.Characters.{bytes_of}
+use Rattle.c_chars.specs.Characters.{bytes_of, mark_len}
 use Rattle.c_grammar.specs.Grammar.{Unended}
 use Rattle.c_grammar.specs.Items.{IsLongest}
 use Rattle.c_lexer.specs.Fault.{IsFault, IsOpenAt, past_blank}
@@ -13,9 +13,11 @@ use Rattle.c_lexer.specs.Reading.{Reading, IsNextLexeme}
 use Rattle.c_lexer.specs.declared.fault.LexFault.TheVariants.{UnterminatedComment}
 use Rattle.c_lexer.specs.declared.item.Lexeme.{Lexeme}
 use Rattle.token_arena.specs.Stored.{Stored, stored_of}
-use Rattle.token_arena.specs.Entries.{kept_by, entry_of, IsPlain, IsSpelled, IsTold}
+use Rattle.token_arena.specs.Entries.{kept_by, kept_by_all, entry_of, IsPlain, IsSpelled, IsTold}
 use Rattle.token_arena.specs.declared.arena.Entry.{Entry}
 use Rattle.token_arena.specs.declared.facts.Told.{Told}
+use Rattle.token_arena.proofs.EntryLemmas.{length_kept}
+use Rattle.token_arena.proofs.GapLemmas.{few}
 use Rattle.token_arena.proofs.KeptLemmas.{IsKeptUpTo, kept_step}
 use Rattle.token_arena.proofs.Spans.{IsSpanned, spanned_step, step_shorter}
 use Rattle.token_arena.proofs.StepLemmas.{length-raw, entry_told, spelled_told}
@@ -91,6 +93,13 @@ ascend_within at stop (c ∷ s) up =
 -- the items that were read end within the text
 pub kept_within : (d : Dialect) (text : List ℕ) (left : Left) (entries : List Entry) (at : ℕ) → IsKeptUpTo d text left entries at → at ≤ length text
 kept_within d text left entries at kept = ascend_within at (length text) left.chars kept.up
+
+-- each item has a byte
+pub few_kept : (d : Dialect) (text : List ℕ) (left : Left) (entries : List Entry) (at : ℕ) → IsKeptUpTo d text left entries at → length entries ≤ length text
+few_kept d text left entries at kept =
+    let room = few text (mark_len text) (kept_by_all text entries) kept.stand in
+    let count = length_kept text entries in
+    omega (arith, room, count)
 
 -- an open comment behind the items that were read
 pub kept_open : (d : Dialect) (text : List ℕ) (old : Reading) (entries : List Entry) (at start : ℕ) → old.dialect ≡ d → IsKeptUpTo d text old.left entries at

@@ -1,32 +1,36 @@
--- Where comments stand, told by the entries.
-use Rattle.std.proofs.Common.{◌≡◌, ℕ, zero, suc, ◌+◌, ◌≤◌, Bool, true, false, not, cond, List, [], ◌∷◌, length, drop, refl, ap, arith}
-use Rattle.std.specs.List.{position_or_len}
-use Rattle.std.proofs.lemmas.List.{length-drop}
-use Rattle.std.proofs.lemmas.List.Sums.{prefix_len-le-length}
-use Rattle.c_grammar.specs.Fitting.{is_comment}
-use Rattle.token_arena.specs.Entries.{keeps_comment, kept_by_all, kept_from}
-use Rattle.token_arena.specs.Stored.{Stored}
+-- The numbers of comments, told by the entries.
+use Rattle.std.proofs.Common.{◌≡◌, ◌∙◌, ℕ, suc, ◌+◌, Bool, true, false, List, [], ◌∷◌, ◌++◌, length, refl, sym, ap, arith, inl, inr}
+use Rattle.std.specs.Prelude.{if◌then◌else◌}
+use Rattle.std.proofs.lemmas.Bool.{cases_Bool}
+use Rattle.token_arena.specs.Comments.{comments_from}
+use Rattle.token_arena.specs.Entries.{comments_kept, keeps_comment, kept_by_all, kept_from}
 use Rattle.token_arena.specs.declared.arena.Entry.{Entry}
 
-abbrev is_remark : Stored → Bool
-is_remark token = is_comment token.kind
+remarks_from : (text : List ℕ) (is_first : Bool) (at : ℕ) (entries : List Entry) → comments_from at (kept_from text is_first entries) ≡ comments_kept at entries
+remarks_from text is_first at [] = refl
+remarks_from text is_first at (entry ∷ entries) = ap (λ (s : List ℕ). if keeps_comment entry then at ∷ s else s) (remarks_from text false (at + 1) entries)
 
-remarks_from : (text : List ℕ) (is_first : Bool) (entries : List Entry) → position_or_len is_remark (kept_from text is_first entries) ≡ position_or_len keeps_comment entries
-remarks_from text is_first [] = refl
-remarks_from text is_first (entry ∷ entries) = ap (λ k. cond (not (keeps_comment entry)) (1 + k) 0) (remarks_from text false entries)
+-- they are those of the items
+pub remarks_kept : (text : List ℕ) (entries : List Entry) → comments_from 0 (kept_by_all text entries) ≡ comments_kept 0 entries
+remarks_kept text entries = remarks_from text true 0 entries
 
-remarks_behind : (text : List ℕ) (is_first : Bool) (n : ℕ) (entries : List Entry) → position_or_len is_remark (drop n (kept_from text is_first entries)) ≡ position_or_len keeps_comment (drop n entries)
-remarks_behind text is_first zero entries = remarks_from text is_first entries
-remarks_behind text is_first (suc n) [] = refl
-remarks_behind text is_first (suc n) (entry ∷ entries) = remarks_behind text false n entries
+-- what one more entry adds
+abbrev pub remark_of : ℕ → Bool → List ℕ
+remark_of id is = if is then id ∷ [] else []
 
--- how many items from a place on stand before the first comment
-pub remarks_kept : (text : List ℕ) (n : ℕ) (entries : List Entry) → position_or_len (λ (token : Stored). is_comment token.kind) (drop n (kept_by_all text entries)) ≡ position_or_len keeps_comment (drop n entries)
-remarks_kept text n entries = remarks_behind text true n entries
+remarks_push : (at : ℕ) (entries : List Entry) (entry : Entry) → comments_kept at (entries ++ entry ∷ []) ≡ comments_kept at entries ++ remark_of (at + length entries) (keeps_comment entry)
+remarks_push at [] entry = let same : at + 0 ≡ at = omega arith in ap (λ k. remark_of k (keeps_comment entry)) (sym same)
+remarks_push at (e ∷ entries) entry =
+    let far : (at + 1) + length entries ≡ at + suc (length entries) = omega arith in
+    let rest : comments_kept (at + 1) (entries ++ entry ∷ []) ≡ comments_kept (at + 1) entries ++ remark_of (at + suc (length entries)) (keeps_comment entry) =
+    remarks_push (at + 1) entries entry ∙ ap (λ k. comments_kept (at + 1) entries ++ remark_of k (keeps_comment entry)) far in
+    elim (cases_Bool (keeps_comment e)) [ inl y ↦ rw y (ap (λ (s : List ℕ). at ∷ s) rest) | inr n ↦ rw n rest ]
 
--- it stands within the items
-pub few_remarks : (from n : ℕ) (entries : List Entry) → from ≤ length entries → n ≡ position_or_len keeps_comment (drop from entries) → from + n ≤ length entries
-few_remarks from n entries below n_is =
-    let few = prefix_len-le-length (λ e. not (keeps_comment e)) (drop from entries) in
-    let len = length-drop from entries in
-    omega (arith, below, n_is, few, len)
+pub remark_pushed : (entries : List Entry) (entry : Entry) (comments more : List ℕ) (id : ℕ) (is : Bool) → comments ≡ comments_kept 0 entries → id ≡ length entries → is ≡ keeps_comment entry → more ≡ comments ++ remark_of id is
+    → more ≡ comments_kept 0 (entries ++ entry ∷ [])
+remark_pushed entries entry comments more id is before id_is kind_is more_is =
+    let none : 0 + length entries ≡ length entries = omega arith in
+    more_is
+    ∙ (ap (λ (s : List ℕ). s ++ remark_of id is) before
+    ∙ (ap (λ k. comments_kept 0 entries ++ remark_of k is) (id_is ∙ sym none)
+    ∙ (ap (λ b. comments_kept 0 entries ++ remark_of (0 + length entries) b) kind_is ∙ sym (remarks_push 0 entries entry))))

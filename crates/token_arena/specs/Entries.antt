@@ -1,6 +1,6 @@
 -- How the items lie in memory.
 use Rattle.std.specs.Prelude.{◌==◌, ◌||◌, ◌≤◌, ◌+◌, ◌-◌, not, ℕ, Bool, true, false, List, [], ◌∷◌, ⊤, All, length, take}
-use Rattle.std.specs.Prelude.{drop, count_by, IsTrue}
+use Rattle.std.specs.Prelude.{◌≡◌, drop, count_by, IsTrue, if◌then◌else◌}
 use Rattle.std.specs.Int.{is_in_range}
 use Rattle.std.specs.List.{list_all}
 use Rattle.token_arena.specs.Gaps.{Contents}
@@ -131,11 +131,18 @@ ArePlain text entries = All (IsPlain text) entries
 abbrev pub contents_of : List ℕ → Dialect → List Entry → Contents
 contents_of text dialect entries = record { text = text; dialect = dialect; tokens = kept_by_all text entries }
 
--- these entries are an arena of this text
-pub record AreEntries (text : List ℕ) (dialect : Dialect) (entries : List Entry) : Type 0 where
+-- the numbers of the comments among the items of these entries, of which the first has this number
+abbrev pub comments_kept : ℕ → List Entry → List ℕ
+comments_kept at [] = []
+comments_kept at (entry ∷ entries) =
+    if keeps_comment entry then at ∷ comments_kept (at + 1) entries else comments_kept (at + 1) entries
+
+-- these entries are an arena of this text, and these numbers are those of the comments
+pub record AreEntries (text : List ℕ) (dialect : Dialect) (entries : List Entry) (comments : List ℕ) : Type 0 where
   pub within : AllWithin text entries
   pub plain : ArePlain text entries
   pub sound : IsSound (contents_of text dialect entries)
+  pub comments_are : comments ≡ comments_kept 0 entries
 
 -- the entry of this item, of whose bytes this is told, behind a gap that begins at this offset: a spliced line end is
 -- in no character

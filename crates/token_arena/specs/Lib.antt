@@ -1,4 +1,5 @@
 pub mod Stored
+pub mod Comments
 pub mod Gaps
 pub mod Holds
 pub mod Entries

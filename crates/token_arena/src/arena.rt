@@ -5,15 +5,14 @@ ghost use Rattle.std.specs.Prelude.{if◌then◌else◌, IsTrue};
 ghost use Rattle.std.specs.List.{list_all, position_or_len, slice_range};
 ghost use Rattle.c_chars.specs.Characters.{is_plain, mark_len};
 ghost use Rattle.c_chars.specs.declared.TheConstants.{LIMIT};
-ghost use Rattle.c_grammar.specs.Fitting.{is_comment};
+ghost use Rattle.token_arena.specs.Comments.{comments_from};
 ghost use Rattle.token_arena.specs.Gaps.{gap_of, gap_start, gap_end, joined, StandFrom};
 ghost use Rattle.token_arena.specs.Holds.{HoldsItems};
 ghost use Rattle.token_arena.specs.Entries.{told_by, AreEntries, contents_of, gap_kept, is_back, is_itself};
-ghost use Rattle.token_arena.specs.Entries.{is_begun, is_printable, keeps_comment};
+ghost use Rattle.token_arena.specs.Entries.{is_begun, is_printable};
 ghost use Rattle.token_arena.specs.Sections.{lines_of};
 ghost use Rattle.token_arena.specs.Stored.{Stored};
 
-use crate::directives::names::is_comment;
 use crate::facts::{Rows, line_feeds, one_row, rows_of, rows_of_any};
 use c_lexer::{Dialect, Item, ItemKind};
 use line_tokens::{GapFacts, TokenId};
@@ -135,19 +134,6 @@ fn first_begun(entries: &[Entry]) -> usize
     entries.len()
 }
 
-/// Where the first comment stands among the items of these entries, or how many there are.
-#[inline(always)]
-fn first_comment(entries: &[Entry]) -> usize
-    ensures { result ≡ position_or_len keeps_comment entries.now }
-{
-    for (i, entry) in entries.iter().enumerate() {
-        if is_comment(entry.kind) {
-            return i;
-        }
-    }
-    entries.len()
-}
-
 /// So many bytes of a text, from an offset on.
 #[inline(always)]
 fn bytes_of(text: &[u8], start: u32, len: u32) -> &[u8]
@@ -164,6 +150,7 @@ pub struct TokenArena<'a, 's> {
     text: &'s [u8],
     dialect: Dialect,
     entries: &'a [Entry],
+    comments: &'a [u32],
 }
 
 impl<'a, 's> Model for TokenArena<'a, 's> {
@@ -174,19 +161,25 @@ impl<'a, 's> Model for TokenArena<'a, 's> {
 
     ghost view = { λ a. contents_of a.text.now a.dialect a.entries.now };
 
-    ghost invariant = { λ a. AreEntries a.text.now a.dialect a.entries.now };
+    ghost invariant = { λ a. AreEntries a.text.now a.dialect a.entries.now a.comments.now };
 }
 
 impl<'a, 's> TokenArena<'a, 's> {
-    /// An arena of these entries of a text.
-    pub(crate) fn of(text: &'s [u8], dialect: Dialect, entries: &'a [Entry]) -> TokenArena<'a, 's>
-        requires { AreEntries text.now dialect entries.now }
+    /// An arena of these entries of a text, of which those with these numbers are comments.
+    pub(crate) fn of(
+        text: &'s [u8],
+        dialect: Dialect,
+        entries: &'a [Entry],
+        comments: &'a [u32],
+    ) -> TokenArena<'a, 's>
+        requires { AreEntries text.now dialect entries.now comments.now }
         ensures { result ≡ contents_of text.now dialect entries.now }
     {
         TokenArena {
             text,
             dialect,
             entries,
+            comments,
         }
     }
 
@@ -274,14 +267,12 @@ impl<'a, 's> TokenArena<'a, 's> {
         (next + first_begun(&self.entries[next..])) as u32
     }
 
-    /// The first comment from the item with this number on, or how many items there are.
-    pub fn next_comment(&self, from: u32) -> u32
-        requires { from ≤ length self.now.tokens }
-        ensures { result
-            ≡ from + position_or_len (λ (token : Stored). is_comment token.kind) (drop from self.now.tokens) }
+    /// The numbers of the items that are comments, in order.
+    #[inline(always)]
+    pub fn comments(&self) -> &'a [u32]
+        ensures { result.now ≡ comments_from 0 self.now.tokens }
     {
-        let from = from as usize;
-        (from + first_comment(&self.entries[from..])) as u32
+        self.comments
     }
 
     /// The bytes before the item with this number, or after the last item. The mark is in no gap.

@@ -1,29 +1,55 @@
 //! Reads a text into an arena.
 
-ghost use Rattle.std.specs.Prelude.{◌≡◌, ◌<◌, ◌≤◌, ◌+◌, length, IfOk, IfErr};
+ghost use Rattle.std.specs.Prelude.{◌≡◌, ◌<◌, ◌≤◌, ◌+◌, ◌^◌, ◌∷◌, ◌++◌, [], length, IfOk, IfErr, if◌then◌else◌};
+ghost use Rattle.c_grammar.specs.Fitting.{is_comment};
 ghost use Rattle.c_chars.specs.declared.TheConstants.{LIMIT};
 ghost use Rattle.token_arena.specs.Building.{IsArenaOf, IsCause};
 ghost use Rattle.token_arena.specs.Entries.{AreEntries};
+ghost use Rattle.token_arena.specs.declared.fault.ArenaFault.TheVariants.{NoMemory};
 
 use crate::arena::{Entry, TokenArena};
+use crate::directives::names::is_comment;
 use crate::facts::{Told, entry_of, told_by_bytes};
 use crate::fault::ArenaFault;
 use bumpalo::Bump;
 use bumpalo::collections::into_bump_slice;
-use c_lexer::{Dialect, LIMIT, LexFault, Lexer};
+use c_lexer::{Dialect, ItemKind, LIMIT, LexFault, Lexer};
 
-/// The entries of all items of a text.
-fn entries_of<'a>(bump: &'a Bump, text: &[u8], dialect: Dialect) -> Result<&'a [Entry], ArenaFault>
+/// Notes the number of an item of this kind, where it is a comment.
+#[inline(always)]
+fn note_comment(comments: &mut Vec<u32, &Bump>, kind: ItemKind, id: usize) -> Result<(), ArenaFault>
+    requires { id < 2 ^ 32 }
+    ensures ok { IfOk result
+        (λ _. comments.new.items ≡ comments.old.items ++ (if is_comment kind then id ∷ [] else [])) }
+    ensures err { IfErr result (λ fault. fault ≡ NoMemory) }
+{
+    if is_comment(kind) {
+        comments.push(id as u32)?;
+    }
+    Ok(())
+}
+
+/// The entries of the items of a text, and the numbers of the comments among them.
+#[derive(Clone, Copy)]
+struct Kept<'a> {
+    entries: &'a [Entry],
+    comments: &'a [u32],
+}
+
+/// What is kept of all items of a text.
+fn entries_of<'a>(bump: &'a Bump, text: &[u8], dialect: Dialect) -> Result<Kept<'a>, ArenaFault>
     requires fits { length text.now ≤ LIMIT }
-    ensures entries { IfOk result (λ entries. AreEntries text.now dialect entries.now) }
+    ensures entries { IfOk result (λ kept. AreEntries text.now dialect kept.entries.now kept.comments.now) }
     ensures fault { IfErr result (IsCause dialect text.now) }
 {
     // Few texts have more items than this, and memory that holds none is never touched.
     let mut entries = Vec::with_capacity(bump, text.len() / 2)?;
+    let mut comments = Vec::new(bump);
     let mut lexer = Lexer::new(text, dialect);
     loop {
         let gap = lexer.at() as u32;
         if let Some(lexeme) = lexer.next_plain_lexeme() {
+            note_comment(&mut comments, lexeme.item.kind, entries.len())?;
             entries.push(entry_of(&lexeme, gap, Told::Itself))?;
             continue;
         }
@@ -31,10 +57,16 @@ fn entries_of<'a>(bump: &'a Bump, text: &[u8], dialect: Dialect) -> Result<&'a [
         let mut other = lexer.ahead();
         match other.next_any() {
             Ok(Some(lexeme)) => {
+                note_comment(&mut comments, lexeme.item.kind, entries.len())?;
                 entries.push(entry_of(&lexeme, gap, told_by_bytes(lexeme.item.raw)))?;
                 lexer = other;
             }
-            Ok(None) => return Ok(into_bump_slice(entries)),
+            Ok(None) => {
+                return Ok(Kept {
+                    entries: into_bump_slice(entries),
+                    comments: into_bump_slice(comments),
+                });
+            }
             Err(LexFault::UnterminatedComment { start }) => {
                 return Err(ArenaFault::UnterminatedComment { start });
             }
@@ -56,6 +88,6 @@ pub fn build<'a, 's>(
             bytes: text.len() as u64,
         });
     }
-    let entries = entries_of(bump, text, dialect)?;
-    Ok(TokenArena::of(text, dialect, entries))
+    let kept = entries_of(bump, text, dialect)?;
+    Ok(TokenArena::of(text, dialect, kept.entries, kept.comments))
 }

@@ -1,4 +1,5 @@
 use Rattle.std.proofs.Common.{◌≡◌, length}
+use Rattle.token_arena.specs.Entries.{comments_kept}
 use Rattle.token_arena.proofs.KeptLemmas.{IsKeptUpTo}
 use Rattle.token_arena.proofs.reading.entries_of.Given as goal
 
@@ -7,6 +8,7 @@ invariant-loop-lexeme l = record {
   text_stays : l.lexer.text ≡ l.text;
   dialect_stays : l.lexer.dialect ≡ l.fn.dialect;
   kept : IsKeptUpTo l.fn.dialect l.text l.lexer.left l.entries.items l.lexer.at;
+  remarks : l.comments.items ≡ comments_kept 0 l.entries.items;
 }
 
 abbrev pub decreases-loop-lexeme : goal.decreases-loop-lexeme
