@@ -2,9 +2,10 @@
 
 ghost use Rattle.std.specs.Prelude.{◌≡◌, ◌==◌, ◌<◌, ◌≤◌, false, get_or, length, take, if◌then◌else◌, IsTrue};
 ghost use Rattle.std.specs.List.{prefix_len};
-ghost use Rattle.c_chars.specs.Characters.{are_words, is_plain, is_quiet_byte, is_space_byte, is_word_byte};
+ghost use Rattle.c_chars.specs.Characters.{are_words, is_plain, is_quiet_byte, is_row_byte, is_space_byte};
+ghost use Rattle.c_chars.specs.Characters.{is_word_byte};
 
-use crate::lanes::{ByteClass, CommentBytes, QuietBytes, SpaceBytes, WordBytes};
+use crate::lanes::{ByteClass, CommentBytes, QuietBytes, RowBytes, SpaceBytes, WordBytes};
 use std::simd::prelude::*;
 
 /// What a table tells of a byte.
@@ -188,4 +189,12 @@ pub(crate) fn quiet_len(bytes: &[u8]) -> usize
     ensures { result ≡ prefix_len is_quiet_byte bytes.now }
 {
     run_len::<QuietBytes>(bytes)
+}
+
+/// How many bytes of ASCII that end no line the bytes begin with, however many.
+#[inline(never)]
+pub fn row_len(bytes: &[u8]) -> usize
+    ensures { result ≡ prefix_len is_row_byte bytes.now }
+{
+    run_len::<RowBytes>(bytes)
 }

@@ -3,7 +3,7 @@
 ghost use Rattle.std.specs.Prelude.{◌≡◌, ℕ, Bool, map, not};
 ghost use Rattle.std.specs.Simd.Lanes.{mask_l};
 ghost use Rattle.c_chars.specs.Characters.{is_comment_byte, is_quiet_byte, is_space_byte, is_text_byte};
-ghost use Rattle.c_chars.specs.Characters.{is_word_byte};
+ghost use Rattle.c_chars.specs.Characters.{is_row_byte, is_word_byte};
 
 use std::simd::prelude::*;
 
@@ -91,5 +91,19 @@ impl ByteClass for QuietBytes {
         let quote = sixteen.simd_eq(u8x16::splat(b'"')) | sixteen.simd_eq(u8x16::splat(b'\''));
         let written = sixteen.simd_eq(u8x16::splat(b'?')) | sixteen.simd_eq(u8x16::splat(b'\\'));
         (unprintable | star | quote | written).to_bitmask()
+    }
+}
+
+/// Bytes of ASCII that end no line.
+pub(crate) struct RowBytes;
+
+impl ByteClass for RowBytes {
+    ghost holds = { is_row_byte };
+
+    #[inline(always)]
+    fn stops(sixteen: u8x16) -> u64 {
+        let beyond = sixteen.simd_ge(u8x16::splat(128));
+        let feed = sixteen.simd_eq(u8x16::splat(b'\n'));
+        (beyond | feed).to_bitmask()
     }
 }

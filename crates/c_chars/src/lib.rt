@@ -12,7 +12,7 @@ mod reader;
 mod units;
 
 pub use alone::next_character;
-pub use classes::{is_word_byte, told};
+pub use classes::{is_word_byte, row_len, told};
 pub use front::{begins_with, behind};
 pub use reader::Chars;
 

@@ -1,16 +1,17 @@
 -- Where the first row of an item ends, and where its last row begins.
-use Rattle.std.proofs.Common.{◌≡◌, ◌==◌, ◌∙◌, ℕ, zero, suc, ◌+◌, ◌-◌, ◌<◌, ◌≤◌, not, Bool, true, false, List, [], ◌∷◌, length, get_or, refl, sym, ap, arith, eq-eqb, count_by, if◌then◌else◌}
-use Rattle.std.specs.List.{position_or_len, suffix_len, list_all}
+use Rattle.std.proofs.Common.{◌≡◌, ◌==◌, ◌∙◌, ℕ, zero, suc, ◌+◌, ◌-◌, ◌<◌, ◌≤◌, not, Bool, true, false, List, [], ◌∷◌, length, get_or, refl, sym, ap, arith, eq-eqb, count_by, if◌then◌else◌, inl, inr}
+use Rattle.std.specs.List.{position_or_len, prefix_len, suffix_len, list_all}
 use Rattle.std.proofs.lemmas.List.Sums.{position_or_len_is, suffix_len_is, sum_by-cons}
 use Rattle.token_arena.specs.Stored.{is_line_feed, rows_of, first_row, last_row, width_of}
 use Rattle.std.specs.Str.{IsAscii, IsUtf8, chars}
 use Rattle.std.specs.Int.{is_in_range}
-use Rattle.std.proofs.lemmas.Bool.{and_parts, ne_eqb}
+use Rattle.std.proofs.lemmas.Bool.{and_parts, cases_Bool, ne_eqb}
 use Rattle.std.proofs.lemmas.Bool.Decides.{nat_tests}
 use Rattle.unicode_width.proofs.Rules.{str_width-printable}
 use Rattle.std.specs.Str.Lossy.{utf8_valid_len}
 use Rattle.std.proofs.lemmas.Str.{chars-IsAscii, utf8_valid_len-IsUtf8}
-use Rattle.unicode_width.specs.Width.{str_width}
+use Rattle.unicode_width.specs.Width.{Reading, past_emoji, plain, read_before, step, str_width}
+use Rattle.c_chars.specs.Characters.{is_row_byte}
 
 pub first_row_ends : (raw : List ℕ) (i : ℕ) → i ≤ length raw → ((k : ℕ) → k < i → is_line_feed (get_or raw k 0) ≡ false)
     → (i < length raw → get_or raw i 0 ≡ 10) → i ≡ position_or_len is_line_feed raw
@@ -74,6 +75,47 @@ either false x y h = refl
 pub width_of-printable : (row : List ℕ) → list_all (is_in_range 0x20 0x7E) row ≡ true → width_of row ≡ length row
 width_of-printable row h =
     let same : str_width false (chars row) ≡ length row = ap (str_width false) (chars-IsAscii row (ascii row h)) ∙ str_width-printable false row h in
+    either (utf8_valid_len row == length row) (str_width false (chars row)) (length row) same
+
+-- each character of a row of ASCII takes a column
+
+row_step : (c total : ℕ) → is_row_byte c ≡ true → step false c (total, plain) ≡ (total + 1, plain)
+unfolding step past_emoji is_row_byte
+row_step c total h = grind (arith, nat_tests)
+
+row_read : (row : List ℕ) → list_all is_row_byte row ≡ true → read_before false row (0, plain) ≡ (length row, plain)
+row_read [] h = refl
+row_read (c ∷ row) h =
+    let parts = and_parts (is_row_byte c) (list_all is_row_byte row) h in
+    let one : length row + 1 ≡ suc (length row) = omega arith in
+    ap (step false c) (row_read row parts.1) ∙ (row_step c (length row) parts.0 ∙ ap (λ (n : ℕ). (n, plain)) one)
+
+row_below : (b : ℕ) → is_row_byte b ≡ true → b < 128
+unfolding is_row_byte
+row_below b h = grind (arith, nat_tests)
+
+row_ascii : (row : List ℕ) → list_all is_row_byte row ≡ true → IsAscii row
+row_ascii [] h i = omega arith
+row_ascii (b ∷ row) h zero = row_below b (and_parts (is_row_byte b) (list_all is_row_byte row) h).0
+row_ascii (b ∷ row) h (suc i) = row_ascii row (and_parts (is_row_byte b) (list_all is_row_byte row) h).1 i
+
+all_row : (row : List ℕ) → prefix_len is_row_byte row ≡ length row → list_all is_row_byte row ≡ true
+all_row [] h = refl
+all_row (b ∷ row) h = elim (cases_Bool (is_row_byte b)) [
+  | inl y ↦
+      let len : prefix_len is_row_byte (b ∷ row) ≡ suc (prefix_len is_row_byte row) = rw y (omega arith) in
+      let rest : prefix_len is_row_byte row ≡ length row = omega (arith, len, h) in
+      rw y (all_row row rest)
+  | inr n ↦
+      let none : prefix_len is_row_byte (b ∷ row) ≡ 0 = rw n refl in
+      absurd (omega (arith, none, h))
+]
+
+pub width_of-row : (row : List ℕ) → prefix_len is_row_byte row ≡ length row → width_of row ≡ length row
+unfolding str_width
+width_of-row row h =
+    let all = all_row row h in
+    let same : str_width false (chars row) ≡ length row = ap (str_width false) (chars-IsAscii row (row_ascii row all)) ∙ ap (λ (r : Reading). r.0) (row_read row all) in
     either (utf8_valid_len row == length row) (str_width false (chars row)) (length row) same
 
 -- a row of printable ASCII has no new-line

@@ -9,6 +9,7 @@ ghost use Rattle.token_arena.specs.Eight.{unprintable};
 ghost use Rattle.token_arena.specs.Entries.{IsTold, entry_of, spelled};
 
 use crate::arena::{Entry, Spelled};
+use c_chars::row_len;
 use c_lexer::Lexeme;
 use std::simd::prelude::*;
 use std::str::from_utf8;
@@ -176,13 +177,13 @@ fn is_printable(row: &[u8]) -> bool
     is_each_printable(row)
 }
 
-/// How many columns a row takes. Most rows are printable ASCII.
-#[inline(always)]
+/// How many columns a row takes. Most rows are ASCII, each character of which takes one.
+#[inline(never)]
 fn width(row: &[u8]) -> u32
     requires { length row.now < 2 ^ 31 }
     ensures { result ≡ width_of row.now }
 {
-    if is_printable(row) {
+    if row_len(row) == row.len() {
         return row.len() as u32;
     }
     match from_utf8(row) {
