@@ -1,5 +1,5 @@
 -- The place where an item stands, as who reads a text keeps it.
-use Rattle.std.specs.Prelude.{◌≡◌, ℕ, ◌≤◌, List, length, take, if◌then◌else◌}
+use Rattle.std.specs.Prelude.{◌≡◌, ◌⊎◌, ℕ, ◌≤◌, List, length, take, if◌then◌else◌}
 use Rattle.c_chars.specs.Characters.{bytes_of}
 use Rattle.c_chars.specs.Coming.{Coming, AreBetween, behind}
 use Rattle.c_chars.specs.declared.Dialect.{Dialect}
@@ -35,6 +35,10 @@ abbrev pub past_word : Dialect → Place → List ℕ → Place
 past_word d AfterHash s = past_name d s
 past_word d AfterDefine s = AfterMacroName
 past_word d place s = past_plain place
+
+-- An item stands in a text line, or first in its line.
+abbrev pub IsInText : Place → Type 0
+IsInText place = (place ≡ LineStart) ⊎ (place ≡ InText)
 
 -- The characters that are to come stand one behind another in the text.
 pub record IsSpanned (x : Coming) : Type 0 where

@@ -9,7 +9,7 @@ ghost use Rattle.c_grammar.specs.Items.{LineStart, AfterHash, AfterDefine, past_
 ghost use Rattle.c_grammar.specs.Items.{is_include};
 ghost use Rattle.item_kinds.specs.declared.ItemKind.TheVariants.{Identifier, Punct, Other, BlockComment};
 ghost use Rattle.c_grammar.specs.Bytes.{IsFirst};
-ghost use Rattle.c_grammar.specs.Place.{place_of, past_plain, past_mark, past_word, IsSpanned, SpelledBy};
+ghost use Rattle.c_grammar.specs.Place.{place_of, past_plain, past_mark, past_word, IsInText, IsSpanned, SpelledBy};
 
 use crate::ItemKind;
 use c_chars::{Chars, Dialect};
@@ -19,6 +19,8 @@ use c_chars::{Chars, Dialect};
 pub enum Standing {
     /// First in its line, comments aside.
     FirstInLine,
+    /// In a text line.
+    WithinText,
     /// Behind the `#` of a directive.
     BehindHash,
     /// Behind the `include` of a directive.
@@ -29,8 +31,6 @@ pub enum Standing {
     BehindMacroName,
     /// Further on in a directive.
     WithinDirective,
-    /// In a text line.
-    WithinText,
 }
 
 impl Standing {
@@ -235,7 +235,7 @@ fn past_plain_mark(standing: Standing, first: u8) -> Option<Standing>
     ensures { IfSome result (λ past.
         (s : List ℕ) → IsFalse (starts (λ c. not (c == first)) s) → place_of past ≡ past_mark (place_of standing) s) }
 {
-    if (first == b'#' || first == b'%') && is_first_in_line(standing) {
+    if is_first_in_line(standing) && (first == b'#' || first == b'%') {
         return None;
     }
     Some(past_other(standing))
@@ -333,5 +333,63 @@ pub fn past_begun(
     match past_plain(dialect, standing, kind, first) {
         Some(past) => Some(past),
         None => past_spelled(dialect, standing, kind, text, left),
+    }
+}
+
+/// Whether an item stands in a text line, or first in its line.
+#[inline(always)]
+pub fn is_in_text(standing: Standing) -> bool
+    ensures { IsTrue result → IsInText (place_of standing) }
+{
+    matches!(standing, Standing::FirstInLine | Standing::WithinText)
+}
+
+/// Behind an item of this kind that stands in a text line or first in its line and begins with this byte, where that tells
+/// the place; none elsewhere.
+#[inline(always)]
+fn past_plain_in_text(standing: Standing, kind: ItemKind, first: u8) -> Option<Standing>
+    requires { IsInText (place_of standing) }
+    ensures { IfSome result (λ past.
+        (d : Dialect) (s : List ℕ) → IsFalse (starts (λ c. not (c == first)) s) →
+        place_of past ≡ past_item d (place_of standing) kind s) }
+{
+    match kind {
+        ItemKind::Punct => {
+            if is_first_in_line(standing) && (first == b'#' || first == b'%') {
+                None
+            } else {
+                Some(Standing::WithinText)
+            }
+        }
+        ItemKind::BlockComment | ItemKind::LineComment => Some(standing),
+        ItemKind::Identifier
+        | ItemKind::Number
+        | ItemKind::CharConst
+        | ItemKind::StringLit
+        | ItemKind::HeaderName
+        | ItemKind::StrayQuote
+        | ItemKind::Other => Some(Standing::WithinText),
+    }
+}
+
+/// Behind an item of this kind that stands in a text line or first in its line and begins with this byte, whose
+/// characters are those of the text up to what is left of it. None is told where they would have to be read again.
+#[inline(always)]
+pub fn past_begun_in_text(
+    standing: Standing,
+    kind: ItemKind,
+    first: u8,
+    text: &Chars,
+    left: &Chars,
+) -> Option<Standing>
+    requires spans { IsSpanned text.now }
+    requires first { IsFirst first (bytes_of text.now.chars) }
+    requires in_text { IsInText (place_of standing) }
+    ensures { IfSome result (λ past.
+        (d : Dialect) → SpelledBy text.now left.now (λ s. place_of past ≡ past_item d (place_of standing) kind s)) }
+{
+    match past_plain_in_text(standing, kind, first) {
+        Some(past) => Some(past),
+        None => past_hash(standing, kind, text, left),
     }
 }

@@ -1,5 +1,5 @@
 -- From the item that is cut off to the one that stands next.
-use Rattle.std.proofs.Common.{◌≡◌, true, ℕ, suc, zero, ◌≤◌, ◌<◌, List, [], ◌∷◌, length, take, drop, refl, ◌∙◌, ap, subst, arith, inl, inr}
+use Rattle.std.proofs.Common.{◌≡◌, true, ℕ, suc, zero, ◌≤◌, ◌<◌, List, [], ◌∷◌, length, take, drop, refl, ◌∙◌, sym, ap, subst, arith, inl, inr, ◌⊎◌}
 use Rattle.std.specs.Prelude.{Option, Some, None, IfSome, MatchOption, Result, Ok, Err, MatchResult, IsTrue, IsFalse}
 use Rattle.std.proofs.lemmas.List.{take-append-drop}
 use Rattle.c_chars.specs.Characters.{bytes_of}
@@ -7,7 +7,7 @@ use Rattle.c_chars.specs.Coming.{Coming, passed, behind}
 use Rattle.c_chars.specs.declared.Dialect.{Dialect}
 use Rattle.c_chars.specs.declared.LogicalChar.{LogicalChar}
 use Rattle.c_grammar.specs.Grammar.{Whole, IsHeaderName}
-use Rattle.c_grammar.specs.Items.{Place, AfterInclude, BeginsHeader, IsLongest}
+use Rattle.c_grammar.specs.Items.{Place, LineStart, AfterInclude, InText, BeginsHeader, IsLongest}
 use Rattle.item_kinds.specs.declared.ItemKind.{ItemKind}
 use Rattle.item_kinds.specs.declared.ItemKind.TheVariants.{HeaderName}
 use Rattle.c_lexer.specs.Cut.{IsCutOff, IsStop}
@@ -49,6 +49,14 @@ next_of_cut place x left kind some nothing c =
 pub next_of_some : (place : Place) (x : Coming) (o : Option (ItemKind × Coming)) → 0 < length x.chars → (place ≡ AfterInclude → BeginsHeader (bytes_of x.chars) → ⊥) → IfSome o (λ r. IsCutOff x r.1 r.0) → IfSome o (λ r. IsCutNext place x r.1 r.0)
 next_of_some place x None some nothing c = c
 next_of_some place x (Some r) some nothing c = next_of_cut place x r.1 r.0 some nothing c
+
+-- in a text line, and first in a line, no header name is read
+pub next_in_text : (place : Place) (x left : Coming) (kind : ItemKind) → 0 < length x.chars → (place ≡ LineStart) ⊎ (place ≡ InText) → IsCutOff x left kind → IsCutNext place x left kind
+next_in_text place x left kind some in_text c = next_of_cut place x left kind some (λ e b. other in_text e) c
+  where
+    other : (place ≡ LineStart) ⊎ (place ≡ InText) → place ≡ AfterInclude → ⊥
+    other (inl start) e = let no : LineStart ≡ AfterInclude = sym start ∙ e in cc
+    other (inr text) e = let no : InText ≡ AfterInclude = sym text ∙ e in cc
 
 pub next_header : (x left : Coming) → 0 < length x.chars → begins_header (bytes_of x.chars) ≡ true → left ≡ behind x (header_len (bytes_of x.chars)) → IsCutNext AfterInclude x left HeaderName
 next_header x left some h e =

@@ -74,8 +74,9 @@ pub(crate) fn behind_line<'s>(text: &Chars<'s>) -> Chars<'s>
     ensures { result ≡ behind text.now (line_len 47 (bytes_of text.now.chars)) }
 {
     let mut rest = text.ahead();
-    let mut kept = text.ahead();
     let mut last = b'/';
+    pass_within_line(&mut rest, last);
+    let mut kept = rest.ahead();
     while let Some(c) = line::next_of_line(&mut rest) {
         if !bytes::is_white(c.byte) {
             last = c.byte;

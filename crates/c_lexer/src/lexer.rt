@@ -203,25 +203,15 @@ impl<'s> Lexer<'s> {
             return None;
         };
         let standing = self.standing.past_gap(begun.lines != 0);
-        let Some((kind, left)) = next::cut_begun(self.dialect, standing, &begun) else {
+        let Some(placed) = next::place_begun(self.dialect, standing, &begun) else {
             return None;
         };
-        let Some(past) = place::past_begun(
-            self.dialect,
-            standing,
-            kind,
-            begun.first.byte,
-            &begun.text,
-            &left,
-        ) else {
-            return None;
-        };
-        let raw = between(self.text, begun.first.from as usize, left.at());
-        self.standing = past;
-        self.chars = left;
+        let raw = between(self.text, begun.first.from as usize, placed.left.at());
+        self.standing = placed.past;
+        self.chars = placed.left;
         Some(Lexeme {
             item: Item {
-                kind,
+                kind: placed.kind,
                 raw,
                 start: begun.first.from,
             },

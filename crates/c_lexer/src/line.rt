@@ -22,10 +22,15 @@ pub(crate) fn next_of_line(chars: &mut Chars) -> Option<LogicalChar>
     ensures none { IfNone result
         (IsFalse (starts (λ c. not (is_new_line c)) (bytes_of chars.old.chars)) × (chars.new ≡ chars.old)) }
 {
-    if bytes::is_new_line(front::byte_at(chars, 0)) {
+    let mut ahead = chars.ahead();
+    let Some(c) = ahead.next() else {
+        return None;
+    };
+    if bytes::is_new_line(c.byte) {
         return None;
     }
-    chars.next()
+    *chars = ahead;
+    Some(c)
 }
 
 /// The next character of the gap; none behind it, where it stays.

@@ -138,3 +138,25 @@ first-printable raw h = ap width_of (first_row-one raw (no_feed-printable raw h)
 
 pub last-printable : (raw : List ℕ) → list_all (is_in_range 0x20 0x7E) raw ≡ true → width_of (last_row raw) ≡ length raw
 last-printable raw h = ap width_of (last_row-one raw (no_feed-printable raw h)) ∙ width_of-printable raw h
+
+-- so is ASCII without a new-line
+
+row_no_feed : (b : ℕ) → is_row_byte b ≡ true → is_line_feed b ≡ false
+unfolding is_row_byte
+row_no_feed b h = ne_eqb b 10 (λ e. grind (arith, nat_tests))
+
+no_feed-row : (row : List ℕ) → list_all is_row_byte row ≡ true → count_by is_line_feed row ≡ 0
+no_feed-row [] h = refl
+no_feed-row (b ∷ row) h =
+    let parts = and_parts (is_row_byte b) (list_all is_row_byte row) h in
+    let later : count_by is_line_feed row ≡ 0 = no_feed-row row parts.1 in
+    sum_by-cons (λ (c : ℕ). if is_line_feed c then 1 else 0) b row ∙ rw (row_no_feed b parts.0) (omega (arith, later))
+
+pub rows-row : (raw : List ℕ) → prefix_len is_row_byte raw ≡ length raw → rows_of raw ≡ 1
+rows-row raw h = ap (λ (n : ℕ). 1 + n) (no_feed-row raw (all_row raw h))
+
+pub first-row : (raw : List ℕ) → prefix_len is_row_byte raw ≡ length raw → width_of (first_row raw) ≡ length raw
+first-row raw h = ap width_of (first_row-one raw (no_feed-row raw (all_row raw h))) ∙ width_of-row raw h
+
+pub last-row : (raw : List ℕ) → prefix_len is_row_byte raw ≡ length raw → width_of (last_row raw) ≡ length raw
+last-row raw h = ap width_of (last_row-one raw (no_feed-row raw (all_row raw h))) ∙ width_of-row raw h

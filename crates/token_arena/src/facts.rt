@@ -215,7 +215,7 @@ pub(crate) fn one_row(width: u32) -> Rows
     }
 }
 
-/// The rows of an item of any bytes.
+/// The rows of an item of any bytes. Most are one row of ASCII.
 #[inline(never)]
 pub(crate) fn rows_of_any(raw: &[u8]) -> Rows
     requires { length raw.now < 2 ^ 31 }
@@ -223,6 +223,9 @@ pub(crate) fn rows_of_any(raw: &[u8]) -> Rows
     ensures first { result.first_width ≡ width_of (first_row raw.now) }
     ensures last { result.last_width ≡ width_of (last_row raw.now) }
 {
+    if row_len(raw) == raw.len() {
+        return one_row(raw.len() as u32);
+    }
     let feeds = line_feeds(raw);
     if feeds == 0 {
         return one_row(width(raw));
