@@ -177,6 +177,7 @@ fn by_cost_rows(style: &Style, left: &LineTok, right: &LineTok) -> Break
 }
 
 /// The table, a row a branch.
+#[inline(always)]
 fn by_table(style: &Style, left: &LineTok, right: &LineTok) -> Break
     ensures row { result ≡ break_by_table style.now left.now right.now }
     ensures small { cost_in result < 2 ^ 34 }
@@ -208,6 +209,7 @@ fn by_table(style: &Style, left: &LineTok, right: &LineTok) -> Break
 /// What the table says of the gap between two tokens of a line.
 ///
 /// A break costs 20 more for each bracket beyond the first that is open at the gap.
+#[inline(always)]
 pub fn gap_rule(style: &Style, left: &LineTok, right: &LineTok) -> GapRule
     ensures rule { result ≡ gap_rule style.now left.now right.now }
     ensures can { IsTrue result.must → IsTrue result.can }

@@ -13,7 +13,7 @@ use Rattle.line_state.specs.declared.gap.Gap.{Gap}
 use Rattle.frame_store.specs.Frames.{topmost, below_topmost}
 use Rattle.frame_store.specs.Store.{FrameList}
 use Rattle.line_state.specs.Brackets.{opens_frame, binds_commas, binds_opening}
-use Rattle.line_state.specs.Layout.{excess}
+use Rattle.line_state.specs.Layout.{Layout, excess, gap_before, is_allowed}
 
 -- the columns past the limit that a token adds to the row of the token before it
 abbrev pub excess_beside : Style → ℕ → ℕ → LineTok → ℕ
@@ -60,3 +60,8 @@ pub record IsAside (style : Style) (left right : LineTok) (fixed : Option Fixed)
 -- a width that is less than the largest number tells that
 abbrev pub IsAsideIfLess : Style → LineTok → LineTok → Option Fixed → ℕ → Type 0
 IsAsideIfLess style left right fixed width = width < 4294967295 → IsAside style left right fixed width
+
+-- no break may be in the gap between two tokens of a line, whatever frames are open there
+abbrev pub HasToStay : Style → LineTok → LineTok → Option Fixed → Type 0
+HasToStay style left right fixed =
+    (layout : Layout) → 0 < layout.index → is_allowed style layout (gap_before layout left right fixed) true ≡ false

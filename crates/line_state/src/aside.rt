@@ -40,7 +40,7 @@ pub fn width_aside(
 }
 
 /// The state with one token more, which stays beside the one before it and moves the column by the width, as
-/// `width_aside` tells it. That choice is admissible.
+/// `width_aside` tells it. So many brackets are open before it. That choice is admissible.
 #[inline(always)]
 pub fn step_aside(
     store: &FrameStore<'_>,
@@ -49,6 +49,7 @@ pub fn step_aside(
     left: &LineTok,
     right: &LineTok,
     width: u32,
+    depth: u32,
 ) -> NodeState
     requires range { IsInRange style.now }
     requires known { IsIn store.now state.now }
@@ -56,6 +57,7 @@ pub fn step_aside(
     requires index { state.now.index < 4294967295 }
     requires cost { state.now.cost ≤ state.now.index * 18446744073709551615 }
     requires aside { IsAside style.now left.now right.now None width }
+    requires depth { depth ≡ right.now.depth }
     ensures allowed { let layout = layout_in store.now state.now in
         is_allowed style.now layout (gap_before layout left.now right.now None) false ≡ true }
     ensures layout { let layout = layout_in store.now state.now in
@@ -66,6 +68,7 @@ pub fn step_aside(
     ensures known { IsIn store.now result }
 {
     let _ = left;
+    let _ = right;
     let column = state.column.saturating_add(width);
     let before = state.column.saturating_sub(style.column_limit);
     let past = column
@@ -75,6 +78,6 @@ pub fn step_aside(
         index: state.index + 1,
         column,
         cost: state.cost + u128::from(excess_cost(style, past)),
-        node: store.lowest(state.node, right.depth),
+        node: store.lowest(state.node, depth),
     }
 }

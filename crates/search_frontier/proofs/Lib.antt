@@ -1,2 +1,3 @@
 mod Heaps
 mod Queue
+mod Sifting

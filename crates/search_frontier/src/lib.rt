@@ -5,5 +5,6 @@
 #![tactic(auto)]
 
 mod frontier;
+mod heap;
 
 pub use frontier::Frontier;

@@ -12,6 +12,7 @@ use Rattle.line_state.specs.Line.{Line, gap_at, gap_between, decision_at, step_o
 use Rattle.frame_store.specs.declared.node.NodeState.{NodeState}
 use Rattle.frame_store.specs.Store.{FrameList}
 use Rattle.line_state.specs.StoredStates.{layout_in, state_in}
+use Rattle.line_state.specs.Beside.{HasToStay}
 use Rattle.std.specs.Bool.{OnTrue, OnFalse}
 use Rattle.searched_line.specs.Successors.{IsNextState, IsSuccessor, LeadsOn, LeadsTo, LeadsNowhere, states_in}
 
@@ -118,9 +119,9 @@ module _ (line : Line) (layout : Layout) (left right : LineTok) (fixed : Option 
       some_same : {A : Type 0} (x y : A) → Some x ≡ Some y → x ≡ y
       some_same x y e = cc
 
--- a choice that is refused whatever the frames are leads nowhere
-pub refused : (line : Line) (state : NodeState) (left right : LineTok) (fixed : Option Fixed) → 0 < state.index → slice_get line.tokens (state.index - 1) ≡ Some left → slice_get line.tokens state.index ≡ Some right → fixed ≡ decision_at line state.index →
-    (style : Style) (brk no : Bool) → style ≡ line.style → OnTrue no ((layout : Layout) → layout.index ≡ state.index → is_allowed style layout (gap_before layout left right fixed) brk ≡ false) → OnTrue no ((lists : List FrameList) → LeadsNowhere line (layout_in lists state) brk)
-refused line state left right fixed inside at_left at_right decided style brk false same isnt = tt
-refused line state left right fixed inside at_left at_right decided style brk true same isnt = λ lists.
-    no_step line (layout_in lists state) left right fixed inside at_left at_right decided style brk (is_allowed style (layout_in lists state) (gap_before (layout_in lists state) left right fixed) brk) same refl (isnt (layout_in lists state) refl)
+-- a break in a gap that has to stay leads nowhere
+pub stays : (line : Line) (state : NodeState) (left right : LineTok) → 0 < state.index → slice_get line.tokens (state.index - 1) ≡ Some left → slice_get line.tokens state.index ≡ Some right → (no : Bool) → OnTrue no (HasToStay line.style left right (decision_at line state.index)) →
+    OnTrue no ((lists : List FrameList) → LeadsNowhere line (layout_in lists state) true)
+stays line state left right inside at_left at_right false told = tt
+stays line state left right inside at_left at_right true told = λ lists.
+    no_step line (layout_in lists state) left right (decision_at line state.index) inside at_left at_right refl line.style true (is_allowed line.style (layout_in lists state) (gap_before (layout_in lists state) left right (decision_at line state.index)) true) refl refl (told (layout_in lists state) inside)

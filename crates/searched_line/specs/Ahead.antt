@@ -16,6 +16,7 @@ use Rattle.line_state.specs.Layout.{Layout, is_some_decision}
 use Rattle.line_state.specs.Line.{Line, gap_at}
 use Rattle.searched_line.specs.Searched.{most_told}
 use Rattle.searched_line.specs.declared.ahead.Stretch.{Stretch}
+use Rattle.searched_line.specs.declared.ahead.GapAhead.{GapAhead}
 
 abbrev pub no_stretch : Stretch
 no_stretch = record { width = 0; least = most_told }
@@ -56,7 +57,10 @@ excess_ahead line s = columns s.column (stretch_ahead line s).width - max s.colu
 abbrev pub least_ahead : Line → Layout → ℕ
 least_ahead line s = min (stretch_ahead line s).least (line.style.penalty_excess_character * excess_ahead line s)
 
+abbrev pub stretch_in : GapAhead → Stretch
+stretch_in gap = record { width = gap.width; least = gap.least }
+
 -- what is known of each number of tokens that can be left
-pub record HaveStretches (line : Line) (stretches : List Stretch) : Type 0 where
-  pub count : length stretches ≡ length line.tokens + 1
-  pub told : (n : ℕ) (stretch : Stretch) → slice_get stretches n ≡ Some stretch → stretch ≡ stretch_of line n
+pub record HaveStretches (line : Line) (gaps : List GapAhead) : Type 0 where
+  pub count : length gaps ≡ length line.tokens + 1
+  pub told : (n : ℕ) (gap : GapAhead) → slice_get gaps n ≡ Some gap → stretch_in gap ≡ stretch_of line n

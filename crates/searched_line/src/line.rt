@@ -1,6 +1,6 @@
 //! A line that is searched.
 
-ghost use Rattle.std.specs.Prelude.{◌≡◌, List, ◌+◌, ◌-◌, ◌*◌, ◌<◌, ◌≤◌, Some, length, slice_get, IfOk, IfSome, OnOk};
+ghost use Rattle.std.specs.Prelude.{◌≡◌, true, List, ◌+◌, ◌-◌, ◌*◌, ◌<◌, ◌≤◌, Some, length, slice_get, IfOk, IfSome, OnOk};
 ghost use Rattle.std.specs.Bool.{OnTrue, OnFalse};
 ghost use Rattle.style_table.specs.Range.{IsInRange};
 ghost use Rattle.line_tokens.specs.declared.LineTok.{LineTok};
@@ -11,20 +11,20 @@ ghost use Rattle.line_state.specs.StoredStates.{layout_in, state_in};
 ghost use Rattle.line_state.specs.Line.{gaps, first_layout, first_cost, decision_at, joined};
 ghost use Rattle.searched_line.specs.Ahead.{least_ahead};
 ghost use Rattle.searched_line.specs.Searched.{IsSearchable, line_of};
-ghost use Rattle.searched_line.specs.Rules.{HaveRules};
 ghost use Rattle.line_state.specs.Beside.{IsAsideIfLess};
+ghost use Rattle.searched_line.specs.Rules.{IsGapAhead};
 ghost use Rattle.line_state.specs.declared.gap.Gap.{Gap};
 ghost use Rattle.searched_line.specs.Saturation.{IsSaturation, gap_into, reach};
 ghost use Rattle.searched_line.specs.Successors.{IsNextState, IsSuccessor, LeadsOn, LeadsNowhere, states_in};
 
-use crate::ahead::{Stretch, aside_at, stretch_at, stretches_of};
+use crate::ahead::{GapAhead, gap_at, gaps_of};
 use crate::saturation::Saturation;
 use bumpalo::Bump;
 use bumpalo::collections::into_bump_slice;
 use frame_store::{FrameStore, NodeState};
 use line_state::{
-    GapRules, NoMemory, State, advance, allowed_by, gap_rules, refused_by, start, start_in,
-    step_aside, step_in, try_step_by,
+    GapRules, NoMemory, State, advance, allowed_by, gap_rules, start, start_in, step_aside,
+    step_in, try_step_by,
 };
 use line_tokens::{Fixed, LineTok};
 use std::alloc::Global;
@@ -50,15 +50,6 @@ pub fn decision_of(fixed: &[Option<Fixed>], at: usize) -> Option<Fixed>
     }
 }
 
-/// What the tables say of a gap.
-#[inline(always)]
-pub(crate) fn rules_at(rules: &[GapRules], at: usize) -> &GapRules
-    requires { at < length rules.now }
-    ensures { slice_get rules.now at ≡ Some result.now }
-{
-    &rules[at]
-}
-
 /// As far as a gap and the token behind it can move a column.
 fn reach_of(indent: u32, token: &LineTok, decision: Option<Fixed>, rules: &GapRules) -> u64
     ensures { result ≡ rules.now.spaces + stored_or decision 0 + token.now.first_width + token.now.last_width + indent }
@@ -81,26 +72,6 @@ fn has_room(column: u32, count: usize, width: u64) -> bool
     width <= room / (count as u64 + 1)
 }
 
-/// What the tables say of each gap inside a line.
-fn rules_of<'r>(
-    style: &Style,
-    tokens: &[LineTok],
-    run: &'r Bump,
-) -> Result<&'r [GapRules], NoMemory>
-    requires range { IsInRange style.now }
-    requires some { 0 < length tokens.now }
-    ensures { IfOk result (λ rules. HaveRules style.now tokens.now rules.now) }
-{
-    let count = tokens.len() - 1;
-    let mut rules = Vec::with_capacity(run, count)?;
-    for at in 0..count {
-        let left = token_at(tokens, at);
-        let right = token_at(tokens, at + 1);
-        rules.push(gap_rules(style, left, right))?;
-    }
-    Ok(into_bump_slice(rules))
-}
-
 /// A line, with its style and what is decided of its gaps.
 #[derive(Drop)]
 pub struct SearchedLine<'a> {
@@ -112,12 +83,8 @@ pub struct SearchedLine<'a> {
     tokens: &'a [LineTok],
     /// For each token the decision of the gap before it, if it has one.
     fixed: &'a [Option<Fixed>],
-    /// What the tables say of each gap inside it.
-    rules: &'a [GapRules],
-    /// The stretch ahead for each number of tokens that can be left.
-    stretches: &'a [Stretch],
-    /// For each such number how far the next token moves the column where it stays, as `width_aside` tells it.
-    asides: &'a [u32],
+    /// What is known of each gap inside it, by how many tokens are left there.
+    ahead: &'a [GapAhead],
 }
 
 impl<'a> Model for SearchedLine<'a> {
@@ -127,13 +94,12 @@ impl<'a> Model for SearchedLine<'a> {
 
     ghost use Rattle.searched_line.specs.Ahead.{HaveStretches};
     ghost use Rattle.searched_line.specs.Searched.{line_of};
-    ghost use Rattle.searched_line.specs.Rules.{HaveAsides, HaveRules};
+    ghost use Rattle.searched_line.specs.Rules.{HaveGaps};
 
     ghost view = { λ l. record { style = l.style.now; column = l.column; tokens = l.tokens.now; fixed = l.fixed.now } };
 
-    ghost invariant = { λ l. HaveRules l.style.now l.tokens.now l.rules.now
-        × HaveStretches (line_of l.style.now l.column l.tokens.now l.fixed.now) l.stretches.now
-        × HaveAsides l.style.now l.tokens.now l.fixed.now l.asides.now };
+    ghost invariant = { λ l. HaveGaps l.style.now l.tokens.now l.fixed.now l.ahead.now
+        × HaveStretches (line_of l.style.now l.column l.tokens.now l.fixed.now) l.ahead.now };
 }
 
 impl<'a> SearchedLine<'a> {
@@ -150,16 +116,13 @@ impl<'a> SearchedLine<'a> {
         requires some { 0 < length tokens.now }
         ensures { IfOk result (λ line. line ≡ line_of style.now column tokens.now fixed.now) }
     {
-        let rules = rules_of(style, tokens, run)?;
-        let (stretches, asides) = stretches_of(style, tokens, fixed, rules, run)?;
+        let ahead = gaps_of(style, tokens, fixed, run)?;
         Ok(SearchedLine {
             style,
             column,
             tokens,
             fixed,
-            rules,
-            stretches,
-            asides,
+            ahead,
         })
     }
 
@@ -185,7 +148,7 @@ impl<'a> SearchedLine<'a> {
         ensures { (s : Layout) → s.index ≡ index → s.column ≡ column → result ≡ least_ahead self.now s }
     {
         let left = self.tokens.len().saturating_sub(index as usize);
-        let ahead = stretch_at(self.stretches, left);
+        let ahead = gap_at(self.ahead, left).stretch();
         let end = column.saturating_add(ahead.width);
         let past = end.saturating_sub(column.max(self.style.column_limit));
         let cost = u64::from(self.style.penalty_excess_character) * u64::from(past);
@@ -224,15 +187,27 @@ impl<'a> SearchedLine<'a> {
         self.fixed[at]
     }
 
-    /// What the tables say of the gap before the token at a place, which isn't the first one.
+    /// What is known of the gap before the token at a place, which isn't the first one.
     #[inline(always)]
-    fn rules_before(&self, at: usize) -> &GapRules
+    fn gap(&self, at: usize) -> &GapAhead
         requires some { 0 < at }
         requires at { at < length self.now.tokens }
         ensures { (left right : LineTok) → slice_get self.now.tokens (at - 1) ≡ Some left →
-            slice_get self.now.tokens at ≡ Some right → AreRules self.now.style left right result.now }
+            slice_get self.now.tokens at ≡ Some right →
+            IsGapAhead self.now.style left right (decision_at self.now at) result.now }
     {
-        rules_at(self.rules, at - 1)
+        gap_at(self.ahead, self.tokens.len() - at)
+    }
+
+    /// What the tables say of the gap before the token at a place, which isn't the first one.
+    #[inline(always)]
+    fn rules_before(&self, at: usize) -> GapRules
+        requires some { 0 < at }
+        requires at { at < length self.now.tokens }
+        ensures { (left right : LineTok) → slice_get self.now.tokens (at - 1) ≡ Some left →
+            slice_get self.now.tokens at ≡ Some right → AreRules self.now.style left right result }
+    {
+        self.gap(at).rules()
     }
 
     /// How far the token at a place, which isn't the first one, moves the column where it stays, as `width_aside` tells
@@ -245,7 +220,7 @@ impl<'a> SearchedLine<'a> {
             slice_get self.now.tokens at ≡ Some right →
             IsAsideIfLess self.now.style left right (decision_at self.now at) result }
     {
-        aside_at(self.asides, self.tokens.len() - at)
+        self.gap(at).aside
     }
 
     /// Whether the choices that break only where they have to can cost nothing. They can't where what stands before the
@@ -262,7 +237,7 @@ impl<'a> SearchedLine<'a> {
         if self.decision(0).is_some() || token.rows > 1 || token.role.is_trailing() {
             return true;
         }
-        let ahead = stretch_at(self.stretches, self.tokens.len() - 1);
+        let ahead = gap_at(self.ahead, self.tokens.len() - 1).stretch();
         let end = self.column.saturating_add(token.first_width);
         end.saturating_add(ahead.width) <= limit
     }
@@ -278,7 +253,7 @@ impl<'a> SearchedLine<'a> {
             let token = self.token(0);
             return gap_rules(self.style, token, token);
         }
-        *self.rules_before(at)
+        self.rules_before(at)
     }
 
     /// As far as the gap before a token and the token can move a column.
@@ -355,30 +330,29 @@ impl<'a> SearchedLine<'a> {
         if !brk {
             let width = self.aside(at);
             if width < u32::MAX {
-                let next = step_aside(store, self.style, state, left, right, width);
+                let depth = self.gap(at).depth;
+                let next = step_aside(store, self.style, state, left, right, width, depth);
                 return Ok(Some(next));
             }
         }
         let fixed = self.decision(at);
         let rules = self.rules_before(at);
-        let next = try_step_by(store, self.style, state, left, right, fixed, rules, brk)?;
+        let next = try_step_by(store, self.style, state, left, right, fixed, &rules, brk)?;
         Ok(next)
     }
 
-    /// Whether a choice isn't admissible, whatever frames are open.
+    /// Whether no break may be in the gap behind a state, whatever frames are open.
     #[inline(always)]
-    pub fn refuses(&self, state: &NodeState, brk: bool) -> bool
+    pub fn has_to_stay(&self, state: &NodeState) -> bool
         requires line { IsSearchable self.now }
         requires some { 0 < state.now.index }
         requires next { state.now.index < length self.now.tokens }
-        ensures { OnTrue result ((lists : List FrameList) → LeadsNowhere self.now (layout_in lists state.now) brk) }
+        ensures { OnTrue result ((lists : List FrameList) → LeadsNowhere self.now (layout_in lists state.now) true) }
     {
         let at = state.index as usize;
-        let left = self.token_before(at);
-        let right = self.token(at);
-        let fixed = self.decision(at);
-        let rules = self.rules_before(at);
-        refused_by(self.style, state, left, right, fixed, rules, brk)
+        let _before = self.token_before(at);
+        let _token = self.token(at);
+        self.gap(at).stays
     }
 
     /// The state of the first token. Want of memory is the only error.
@@ -410,7 +384,7 @@ impl<'a> SearchedLine<'a> {
         let right = self.token(at);
         let fixed = self.decision(at);
         let rules = self.rules_before(at);
-        allowed_by(self.style, state, left, right, fixed, rules, brk)
+        allowed_by(self.style, state, left, right, fixed, &rules, brk)
     }
 
     /// Takes an admissible choice. Want of memory is the only error.
@@ -427,7 +401,7 @@ impl<'a> SearchedLine<'a> {
         let right = self.token(at);
         let fixed = self.decision(at);
         let rules = self.rules_before(at);
-        advance(self.style, state, left, right, fixed, rules, brk)?;
+        advance(self.style, state, left, right, fixed, &rules, brk)?;
         Ok(())
     }
 }

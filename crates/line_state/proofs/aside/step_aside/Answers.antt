@@ -1,4 +1,5 @@
-use Rattle.std.proofs.Common.{◌≡◌, ℕ, ◌+◌, ◌-◌, ◌*◌, ◌∙◌, ap, sym, refl}
+use Rattle.std.proofs.Common.{◌≡◌, ℕ, ◌+◌, ◌-◌, ◌*◌, ◌∙◌, take, ap, sym, refl}
+use Rattle.frame_store.specs.Store.{FrameList, list_at}
 use Rattle.line_tokens.specs.Columns.{columns}
 use Rattle.line_state.specs.StoredStates.{layout_in}
 use Rattle.line_state.proofs.Asides.{steps_aside, costs_aside, aside_after}
@@ -9,8 +10,10 @@ returns-clause-allowed c = (steps_aside c.args.style.now (layout_in c.args.store
 
 pub returns-clause-layout : goal.returns-clause-layout
 returns-clause-layout c =
+    let list = list_at c.args.store.now c.args.state.now.node in
+    let kept : list_at c.args.store.now c.lowest.result ≡ record { base = list.base; frames = take c.args.right.now.depth list.frames } = c.lowest.ensures.list ∙ ap {B = FrameList} (λ (n : ℕ). record { base = list.base; frames = take n list.frames }) c.requires.depth in
     aside_after c.args.style.now c.args.store.now c.args.state.now (record { cost = c.args.state.now.cost + c.from.result; index = c.args.state.now.index + 1; column = c.saturating_add-column.result; node = c.lowest.result }) c.args.left.now c.args.right.now c.args.width
-    c.requires.some c.requires.aside refl c.lowest.result refl c.lowest.ensures.list c.saturating_add-column.ensures
+    c.requires.some c.requires.aside refl c.lowest.result refl kept c.saturating_add-column.ensures
 
 pub returns-clause-cost : goal.returns-clause-cost
 returns-clause-cost c =

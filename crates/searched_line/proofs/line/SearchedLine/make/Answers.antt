@@ -1,4 +1,4 @@
 use Rattle.searched_line.proofs.line.SearchedLine.make.Goals as goal
 
 pub invariant_of-result : goal.invariant_of-result
-invariant_of-result c = (c.in_ok-rules.ensures, c.in_ok-stretches.ensures.stretches c.args.style.now c.args.column c.in_ok-rules.ensures, c.in_ok-stretches.ensures.asides)
+invariant_of-result c = (c.in_ok-ahead.ensures.gaps, c.in_ok-ahead.ensures.stretches c.args.column)

@@ -15,6 +15,9 @@ pub step_aside-next-requires-clause-aside : goal.step_aside-next-requires-clause
 step_aside-next-requires-clause-aside c =
     undecided _ c.args.self.now.style _ _ _ _ (ap (λ (l : Line). l.style) c.self.view_is) (c.aside-width.ensures _ _ c.token_before-left.ensures c.token-right.ensures (omega (arith, c.if-width-lt4294967295.true)))
 
+pub step_aside-next-requires-clause-depth : goal.step_aside-next-requires-clause-depth
+step_aside-next-requires-clause-depth c = (c.gap.ensures _ _ c.token_before-left.ensures c.token-right.ensures).depth
+
 pub returns-then-width-lt4294967295-clause-gives : goal.returns-then-width-lt4294967295-clause-gives
 returns-then-width-lt4294967295-clause-gives c =
     let layout = layout_in c.args.store.now c.args.state.now in
