@@ -61,6 +61,27 @@ pub record IsAside (style : Style) (left right : LineTok) (fixed : Option Fixed)
 abbrev pub IsAsideIfLess : Style → LineTok → LineTok → Option Fixed → ℕ → Type 0
 IsAsideIfLess style left right fixed width = width < 4294967295 → IsAside style left right fixed width
 
+-- a token that may begin a row whatever the frames are, leaves those as they are that are open before it, starts where
+-- the topmost one says, and ends the width behind that
+pub record IsRow (style : Style) (left right : LineTok) (fixed : Option Fixed) (width : ℕ) : Type 0 where
+  pub free : fixed ≡ None
+  pub may : (gap_rule style left right).must ≡ false
+  pub can : (gap_rule style left right).can ≡ true
+  pub left_opens : opens_frame left.role ≡ false
+  pub right_opens : opens_frame right.role ≡ false
+  pub unbound : (opener : Role) → (is_comma left.role && binds_commas style opener) ≡ false
+  pub released : (opener : Role) → binds_opening style opener ≡ false
+  pub inside : is_decl_name right.role ≡ false
+  pub inner : is_list_close right.role ≡ false
+  pub costs : is_trailing right.role ≡ false
+  pub low : nat_lt 1 right.rows ≡ false
+  pub even : right.first_width ≡ right.last_width
+  pub wide : width ≡ right.first_width
+
+-- a width that is less than the largest number tells that
+abbrev pub IsRowIfLess : Style → LineTok → LineTok → Option Fixed → ℕ → Type 0
+IsRowIfLess style left right fixed width = width < 4294967295 → IsRow style left right fixed width
+
 -- no break may be in the gap between two tokens of a line, whatever frames are open there
 abbrev pub HasToStay : Style → LineTok → LineTok → Option Fixed → Type 0
 HasToStay style left right fixed =

@@ -15,6 +15,7 @@
 mod aside;
 mod gap;
 mod placing;
+mod row;
 mod rules;
 mod spot;
 mod state;
@@ -24,6 +25,7 @@ pub use aside::{step_aside, width_aside};
 pub use gap::{Gap, GapRules, gap_rules};
 pub use line_tokens::NoMemory;
 pub use placing::{advance, lay, step};
+pub use row::{step_row, width_below};
 pub use rules::{allowed, allowed_by, has_to_stay};
 pub use state::{State, cells, start};
 pub use stepping::{cells_in, start_in, step_in, try_step_by};

@@ -223,7 +223,7 @@ pub(crate) fn binds_no_gaps(style: &Style, role: Role) -> bool
 
 /// Whether the gaps in a bracket are free of the gap behind it, whatever bracket it is.
 #[inline(always)]
-fn binds_no_openers(style: &Style) -> bool
+pub(crate) fn binds_no_openers(style: &Style) -> bool
     ensures { OnTrue result ((opener : Role) → binds_opening style.now opener ≡ false) }
 {
     !matches!(

@@ -36,7 +36,8 @@ fn is_up_to_at(entries: &[Reverse<(u128, u32, usize)>], one: usize, other: usize
     is_up_to(&entries[one].0, &entries[other].0)
 }
 
-/// The place of the lesser of two entries, of which the second may be missing.
+/// The place of the lesser of two entries, of which the second may be missing. Which one it is can't be foreseen, so it
+/// is counted, and not asked.
 #[inline(always)]
 fn lesser(entries: &[Reverse<(u128, u32, usize)>], left: usize) -> usize
     requires { left < length entries.now }
@@ -46,11 +47,7 @@ fn lesser(entries: &[Reverse<(u128, u32, usize)>], left: usize) -> usize
     if right >= entries.len() {
         return left;
     }
-    if is_up_to_at(entries, left, right) {
-        left
-    } else {
-        right
-    }
+    left + usize::from(!is_up_to_at(entries, left, right))
 }
 
 /// Puts the first entry where it belongs.

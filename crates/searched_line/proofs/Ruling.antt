@@ -11,7 +11,7 @@ use Rattle.line_state.specs.declared.gap.GapRules.{GapRules}
 use Rattle.searched_line.specs.declared.ahead.GapAhead.{GapAhead}
 use Rattle.line_state.specs.Layout.{AreRules}
 use Rattle.line_state.specs.Line.{Line, decision_at, joined}
-use Rattle.line_state.specs.Beside.{IsAside}
+use Rattle.line_state.specs.Beside.{IsAside, IsRow}
 use Rattle.searched_line.specs.Rules.{IsGapAhead, HaveGaps}
 
 some_same : {A : Type 0} (x y : A) → Some x ≡ Some y → x ≡ y
@@ -73,3 +73,7 @@ ruled_by style other left right rule same are = subst (λ (s : Style). AreRules 
 -- a token that stays aside has no decision
 pub undecided : (style other : Style) (left right : LineTok) (decision : Option Fixed) (width : ℕ) → style ≡ other → IsAside other left right decision width → IsAside style left right None width
 undecided style other left right decision width same aside = subst (λ (d : Option Fixed). IsAside style left right d width) aside.free (subst (λ (s : Style). IsAside s left right decision width) (sym same) aside)
+
+-- .. nor has one that begins a row
+pub undecided_row : (style other : Style) (left right : LineTok) (decision : Option Fixed) (width : ℕ) → style ≡ other → IsRow other left right decision width → IsRow style left right None width
+undecided_row style other left right decision width same row = subst (λ (d : Option Fixed). IsRow style left right d width) row.free (subst (λ (s : Style). IsRow s left right decision width) (sym same) row)

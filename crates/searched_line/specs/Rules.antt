@@ -7,7 +7,7 @@ use Rattle.style_table.specs.declared.style.Style.{Style}
 use Rattle.line_state.specs.declared.gap.GapRules.{GapRules}
 use Rattle.line_state.specs.Layout.{AreRules}
 use Rattle.line_state.specs.Line.{joined}
-use Rattle.line_state.specs.Beside.{IsAsideIfLess, HasToStay}
+use Rattle.line_state.specs.Beside.{IsAsideIfLess, IsRowIfLess, HasToStay}
 use Rattle.searched_line.specs.declared.ahead.GapAhead.{GapAhead}
 
 -- what the tables say of a gap
@@ -20,6 +20,7 @@ rules_in gap =
 pub record IsGapAhead (style : Style) (left right : LineTok) (fixed : Option Fixed) (gap : GapAhead) : Type 0 where
   pub rules : AreRules style left right (rules_in gap)
   pub aside : IsAsideIfLess style left right fixed gap.aside
+  pub row : IsRowIfLess style left right fixed gap.row
   pub depth : gap.depth ≡ right.depth
   pub stays : OnTrue gap.stays (HasToStay style left right fixed)
 

@@ -12,7 +12,7 @@ use crate::line::{decision_of, token_at};
 use bumpalo::Bump;
 use bumpalo::collections::into_bump_slice;
 use layout_tables::GapRule;
-use line_state::{GapRules, NoMemory, gap_rules, has_to_stay, width_aside};
+use line_state::{GapRules, NoMemory, gap_rules, has_to_stay, width_aside, width_below};
 use line_tokens::{Fixed, LineTok};
 use style_table::Style;
 
@@ -38,6 +38,8 @@ pub(crate) struct GapAhead {
     pub width: u32,
     /// How far the token behind it moves the column where it stays, as `width_aside` tells it.
     pub aside: u32,
+    /// How wide the row is that the token begins where it breaks, as `width_below` tells it.
+    pub row: u32,
     /// How many brackets are open before that token.
     pub depth: u32,
     /// The blanks in it where it doesn't break.
@@ -148,11 +150,13 @@ fn gap_ahead(
 {
     let rules = gap_rules(style, left, right);
     let (aside, stretch) = row_ahead(style, left, right, decision, &rules, next);
+    let row = width_below(style, left, right, aside, &rules);
     GapAhead {
         cost: rules.rule.cost,
         least: stretch.least,
         width: stretch.width,
         aside,
+        row,
         depth: right.depth,
         spaces: rules.spaces,
         can: rules.rule.can,
@@ -172,6 +176,7 @@ fn no_gap() -> GapAhead
         least: stretch.least,
         width: stretch.width,
         aside: u32::MAX,
+        row: u32::MAX,
         depth: 0,
         spaces: 0,
         can: false,

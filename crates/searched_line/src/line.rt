@@ -11,7 +11,7 @@ ghost use Rattle.line_state.specs.StoredStates.{layout_in, state_in};
 ghost use Rattle.line_state.specs.Line.{gaps, first_layout, first_cost, decision_at, joined};
 ghost use Rattle.searched_line.specs.Ahead.{least_ahead};
 ghost use Rattle.searched_line.specs.Searched.{IsSearchable, line_of};
-ghost use Rattle.line_state.specs.Beside.{IsAsideIfLess};
+ghost use Rattle.line_state.specs.Beside.{IsAsideIfLess, IsRowIfLess};
 ghost use Rattle.searched_line.specs.Rules.{IsGapAhead};
 ghost use Rattle.line_state.specs.declared.gap.Gap.{Gap};
 ghost use Rattle.searched_line.specs.Saturation.{IsSaturation, gap_into, reach};
@@ -24,7 +24,7 @@ use bumpalo::collections::into_bump_slice;
 use frame_store::{FrameStore, NodeState};
 use line_state::{
     GapRules, NoMemory, State, advance, allowed_by, gap_rules, start, start_in, step_aside,
-    step_in, try_step_by,
+    step_in, step_row, try_step_by,
 };
 use line_tokens::{Fixed, LineTok};
 use std::alloc::Global;
@@ -223,6 +223,19 @@ impl<'a> SearchedLine<'a> {
         self.gap(at).aside
     }
 
+    /// How wide the row is that the token at a place, which isn't the first one, begins where its gap breaks, as
+    /// `width_below` tells it.
+    #[inline(always)]
+    fn row(&self, at: usize) -> u32
+        requires some { 0 < at }
+        requires at { at < length self.now.tokens }
+        ensures { (left right : LineTok) → slice_get self.now.tokens (at - 1) ≡ Some left →
+            slice_get self.now.tokens at ≡ Some right →
+            IsRowIfLess self.now.style left right (decision_at self.now at) result }
+    {
+        self.gap(at).row
+    }
+
     /// Whether the choices that break only where they have to can cost nothing. They can't where what stands before the
     /// first gap that has to break is wider than a row, but for a line of one token, which has no choices. This test
     /// spares many lines the walk over their states.
@@ -332,6 +345,13 @@ impl<'a> SearchedLine<'a> {
             if width < u32::MAX {
                 let depth = self.gap(at).depth;
                 let next = step_aside(store, self.style, state, left, right, width, depth);
+                return Ok(Some(next));
+            }
+        } else {
+            let width = self.row(at);
+            if width < u32::MAX {
+                let (cost, depth) = (self.gap(at).cost, self.gap(at).depth);
+                let next = step_row(store, self.style, state, left, right, width, cost, depth);
                 return Ok(Some(next));
             }
         }
