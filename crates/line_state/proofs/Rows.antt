@@ -6,7 +6,6 @@ use Rattle.line_tokens.specs.Roles.{is_list_close}
 use Rattle.line_tokens.specs.declared.LineTok.{LineTok}
 use Rattle.layout_tables.specs.Breaks.{gap_rule}
 use Rattle.style_table.specs.declared.style.Style.{Style}
-use Rattle.line_state.specs.declared.gap.Gap.{Gap}
 use Rattle.line_state.specs.Layout.{Layout, gap_before, open_frames, layout_after, cost_of}
 use Rattle.line_state.specs.Beside.{IsRow, row_start}
 use Rattle.frame_store.specs.Frames.{topmost, below_topmost}

@@ -1,5 +1,5 @@
-//! Tokens that begin a row inside the topmost frame, of which all but where that frame stands is known before the line is
-//! walked along.
+//! Tokens that begin a row inside the topmost frame, of which all but where that frame stands is known before the line
+//! is walked along.
 
 ghost use Rattle.std.specs.Prelude.{◌≡◌, ◌+◌, ◌*◌, ◌^◌, ◌<◌, ◌≤◌, Option, None, true};
 ghost use Rattle.layout_tables.specs.Breaks.{gap_rule};
@@ -42,8 +42,8 @@ pub fn width_below(
     }
 }
 
-/// The state with one token more, which begins a row of the width, as `width_below` tells it, at the cost of the gap. So
-/// many brackets are open before it. That choice is admissible.
+/// The state with one token more, which begins a row of the width, as `width_below` tells it, at the cost of the gap.
+/// So many brackets are open before it. That choice is admissible.
 #[inline(always)]
 pub fn step_row(
     store: &FrameStore<'_>,

@@ -1,4 +1,7 @@
 //! A heap of entries, of which the first one isn't after any.
+//!
+//! Mostly an entry takes the place of the first one, and sinks from there: the heap of `std` would take an entry off
+//! the end for that and put it there again.
 
 ghost use Rattle.std.specs.Prelude.{◌≡◌, ◌<◌, ◌∷◌, OnOk, OnErr, drop, length, slice_index_or};
 ghost use Rattle.std.specs.Bool.{OnTrue, OnFalse};

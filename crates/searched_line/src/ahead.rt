@@ -25,8 +25,8 @@ pub(crate) struct Stretch {
     pub least: u64,
 }
 
-/// What is known of a gap and the tokens behind it, whatever stands before it in its line. The numbers stand beside each
-/// other, so that it is made and read without a copy.
+/// What is known of a gap and the tokens behind it, whatever stands before it in its line. The numbers stand beside
+/// each other, so that it is made and read without a copy.
 #[derive(Clone, Copy)]
 pub(crate) struct GapAhead {
     /// What a break costs where it may break and need not, as the tables say.

@@ -1,5 +1,4 @@
 use Rattle.std.proofs.Common.{◌≡◌, ℕ, ◌+◌, ◌-◌, ◌*◌, ◌∙◌, take, ap, sym, refl}
-use Rattle.layout_tables.specs.Breaks.{gap_rule}
 use Rattle.frame_store.specs.Frames.{topmost}
 use Rattle.frame_store.specs.declared.frames.Frame.{Frame}
 use Rattle.frame_store.specs.Store.{FrameList, list_at}
