@@ -1,2 +1,3 @@
 pub mod CodeTokens
 pub mod Lefts
+pub mod StillTokens

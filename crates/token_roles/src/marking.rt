@@ -2,25 +2,27 @@
 
 ghost use Rattle.std.specs.Prelude.{◌≡◌, ◌<◌, ◌+◌, ◌^◌, ◌∷◌, ◌++◌, [], true, false, length, vec_capacity, not};
 ghost use Rattle.std.specs.Prelude.{if◌then◌else◌};
-ghost use Rattle.token_classes.specs.Classes.{is_comment};
-ghost use Rattle.token_roles.specs.Classes.{is_closer};
+ghost use Rattle.line_tokens.specs.declared.role.Role.TheVariants.{DeclName, Word};
+ghost use Rattle.token_classes.specs.Classes.{is_comment, is_plain};
+ghost use Rattle.token_roles.specs.Classes.{is_closer, is_still};
 ghost use Rattle.token_roles.specs.Left.{passed, counted, splits_behind};
-ghost use Rattle.token_roles.specs.RoleTable.{role_of};
+ghost use Rattle.token_roles.specs.RoleTable.{role_of, is_declared_name};
 ghost use Rattle.token_roles.specs.Marks.{partner_at, mark_at, closed_role, taken_back, ends_in_comma, is_split};
 ghost use Rattle.token_roles.specs.Marks.{past_comment, past_opener, past_code, mark_of};
 
 use crate::closing::{closed_role, mark_at, take_back};
 use crate::commas::{ends_in_comma, is_split};
-use crate::left::{Left, Seen, open, pass, step};
+use crate::left::{Left, Seen, open, pass, pass_still};
 use crate::mark::Mark;
 use crate::power::power;
-use crate::table::{partner_at, role_of};
+use crate::table::{is_declared_name, partner_at, role_of};
 use bumpalo::Bump;
 use line_tokens::{LineKind, Role};
 use token_classes::TokenClass::{
-    Ampersand, Arrow, Bar, BlockComment, CapitalWord, CloseBrace, CloseRound, CloseSquare, Comma,
-    Equality, Equals, Hash, If, LineComment, Literal, OpenBrace, OpenRound, OpenSquare, PlainWord,
-    Point, Semicolon, Star, Text, TypeWord,
+    Ampersand, Arrow, Bar, BlockComment, CapitalWord, Caret, Case, CloseBrace, CloseRound,
+    CloseSquare, Comma, Divide, Else, Equality, Equals, For, Hash, If, Jump, LineComment, Literal,
+    OpenBrace, OpenRound, OpenSquare, Or, PlainWord, Point, Relation, Semicolon, Shift, SizeWord,
+    Star, Struct, Text, TypeWord, While,
 };
 use token_classes::{Partner, TokenClass};
 
@@ -57,6 +59,7 @@ fn mark_opener(
     class: TokenClass,
     after: &[TokenClass],
 )
+    requires opener { is_still class ≡ true }
     requires few { length marks.old.items < 2 ^ 32 }
     requires room { length marks.old.items < vec_capacity marks.old }
     ensures room { vec_capacity marks.new ≡ vec_capacity marks.old }
@@ -89,6 +92,7 @@ fn mark_closer(
     left: &mut Left,
     class: TokenClass,
 )
+    requires closer { is_still class ≡ true }
     requires few { length marks.old.items < 2 ^ 32 }
     requires room { length marks.old.items < vec_capacity marks.old }
     ensures room { vec_capacity marks.new ≡ vec_capacity marks.old }
@@ -109,8 +113,7 @@ fn mark_closer(
     };
     let mark = mark_of(left, seen);
     take_back(&mut left.around, first, partner, marks);
-    step(left, seen);
-    left.splits = false;
+    pass_still(left, seen);
     marks.push_reserved(mark);
 }
 
@@ -150,6 +153,49 @@ fn mark_code(
     pass(left, seen);
 }
 
+/// Tells what is to be told of a token behind which little changes, with its role, and goes behind it.
+#[inline(always)]
+fn mark_still(marks: &mut Vec<Mark, &Bump>, left: &mut Left, class: TokenClass, role: Role)
+    requires still { is_still class ≡ true }
+    requires room { length marks.old.items < vec_capacity marks.old }
+    ensures room { vec_capacity marks.new ≡ vec_capacity marks.old }
+    ensures marks { marks.new.items ≡ marks.old.items ++ mark_of left.old (record { class = class; role = role }) ∷ [] }
+    ensures left { left.new ≡ passed left.old (record { class = class; role = role }) left.old.around false }
+{
+    let seen = Seen { class, role };
+    marks.push_reserved(mark_of(left, seen));
+    pass_still(left, seen);
+}
+
+/// Tells what is to be told of a plain word, and goes behind it. Either role is known where it is written, so that it is
+/// written together with the class.
+#[inline(always)]
+fn mark_word(
+    kind: LineKind,
+    marks: &mut Vec<Mark, &Bump>,
+    left: &mut Left,
+    class: TokenClass,
+    after: &[TokenClass],
+)
+    requires plain { is_plain class ≡ true }
+    requires room { length marks.old.items < vec_capacity marks.old }
+    ensures room { vec_capacity marks.new ≡ vec_capacity marks.old }
+    ensures marks { marks.new.items ≡ marks.old.items ++ mark_of left.old (record {
+      class = class;
+      role = if is_declared_name kind left.old after.now then DeclName else Word;
+    }) ∷ [] }
+    ensures left { left.new ≡ passed left.old (record {
+      class = class;
+      role = if is_declared_name kind left.old after.now then DeclName else Word;
+    }) left.old.around false }
+{
+    if is_declared_name(kind, left, after) {
+        mark_still(marks, left, class, Role::DeclName);
+    } else {
+        mark_still(marks, left, class, Role::Word);
+    }
+}
+
 /// Tells what is to be told of a comment with its role, and goes behind it. The caller has room for it.
 #[inline(always)]
 pub fn mark_comment(marks: &mut Vec<Mark, &Bump>, left: &mut Left, seen: Seen)
@@ -167,7 +213,8 @@ pub fn mark_comment(marks: &mut Vec<Mark, &Bump>, left: &mut Left, seen: Seen)
 ///
 /// `first` is the place where its line begins, `before` is the last token before the line that is no comment, and
 /// `after` is the rest of the line. The caller has room for the token.
-// Of a class that has an arm of its own the tables keep one row, so the most frequent do.
+// Of a class that has an arm of its own the tables keep one row, so the most frequent do. Others share an arm where they
+// have one role.
 #[inline(always)]
 pub fn mark_token(
     partners: &[Partner],
@@ -206,8 +253,8 @@ pub fn mark_token(
         OpenSquare | OpenBrace => mark_opener(partners, kind, before, marks, left, class, after),
         CloseRound => mark_closer(partners, first, marks, left, CloseRound),
         CloseSquare | CloseBrace => mark_closer(partners, first, marks, left, class),
-        PlainWord => mark_code(partners, kind, before, marks, left, PlainWord, after),
-        CapitalWord => mark_code(partners, kind, before, marks, left, CapitalWord, after),
+        PlainWord => mark_word(kind, marks, left, PlainWord, after),
+        CapitalWord => mark_word(kind, marks, left, CapitalWord, after),
         TypeWord => mark_code(partners, kind, before, marks, left, TypeWord, after),
         Comma => mark_code(partners, kind, before, marks, left, Comma, after),
         Semicolon => mark_code(partners, kind, before, marks, left, Semicolon, after),
@@ -217,6 +264,10 @@ pub fn mark_token(
         Star => mark_code(partners, kind, before, marks, left, Star, after),
         Equals => mark_code(partners, kind, before, marks, left, Equals, after),
         If => mark_code(partners, kind, before, marks, left, If, after),
+        Else | For | While | Case | Jump | Struct | SizeWord => {
+            mark_still(marks, left, class, Role::Word)
+        }
+        Divide | Shift | Relation | Caret | Or => mark_still(marks, left, class, Role::Binary),
         Hash => mark_code(partners, kind, before, marks, left, Hash, after),
         Point => mark_code(partners, kind, before, marks, left, Point, after),
         Ampersand => mark_code(partners, kind, before, marks, left, Ampersand, after),
