@@ -93,15 +93,13 @@ pub fn item_class(
     ensures { IfOk result (λ class. class ≡ item_class arena.now id.0) }
 {
     let token = arena.get(id);
-    match token.item.kind {
-        ItemKind::Identifier => {
-            class_of_word(arena.dialect(), token.item.raw, arena.is_itself(id), run)
-        },
-        ItemKind::Punct => {
-            class_of_punctuator(arena.dialect(), token.item.raw, arena.is_itself(id), run)
-        },
-        kind => Ok(class_of_kind(kind)),
-    }
+    let raw = token.item.raw;
+    let class = match token.item.kind {
+        ItemKind::Identifier => class_of_word(arena.dialect(), raw, arena.is_itself(id), run)?,
+        ItemKind::Punct => class_of_punctuator(arena.dialect(), raw, arena.is_itself(id), run)?,
+        kind => class_of_kind(kind),
+    };
+    Ok(class)
 }
 
 /// The class of each item of a text, in its order. Want of memory is the only error.
