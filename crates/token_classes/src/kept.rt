@@ -30,6 +30,9 @@ fn mark_topmost(stack: &[Opener], braces: usize, marks: &mut [bool]) -> bool
     false
 }
 
+/// How many openers there is room for at first. Few views nest deeper.
+const DEPTH: usize = 32;
+
 /// Fills in the partners of the places, marks the statement braces among them, and tells whether there is one.
 fn read_brackets(
     classes: &[TokenClass],
@@ -46,7 +49,7 @@ fn read_brackets(
     ensures none { IfOk result (λ any. any ≡ false → marks.new ≡ replicate (length classes.now) false) }
 {
     let mut any = false;
-    let mut stack: Vec<Opener, &Bump> = Vec::new(run);
+    let mut stack: Vec<Opener, &Bump> = Vec::with_capacity(run, DEPTH)?;
     let mut braces: usize = 0;
     for (i, c) in classes.iter().enumerate() {
         if c.is_semicolon() && mark_topmost(&stack, braces, marks) {
