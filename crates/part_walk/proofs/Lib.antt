@@ -1,3 +1,4 @@
 pub mod Failed
 pub mod Heads
+pub mod PlainTokens
 pub mod Waits

@@ -1,7 +1,8 @@
 -- What the code keeps on the way along the items of a part.
-use Rattle.std.specs.Prelude.{◌≡◌, ⊤, ℕ, ◌+◌, ◌==◌, nat_le, Bool, true, false, ◌||◌, not, None}
+use Rattle.std.specs.Prelude.{◌≡◌, ⊤, ℕ, ◌+◌, ◌==◌, nat_le, Bool, true, false, ◌||◌, not, None, if◌then◌else◌}
 use Rattle.token_classes.specs.declared.class.TokenClass.{TokenClass}
-use Rattle.token_classes.specs.declared.class.TokenClass.TheVariants.{OpenBrace}
+use Rattle.token_classes.specs.declared.class.TokenClass.TheVariants.{OpenRound, OpenSquare, OpenBrace}
+use Rattle.token_classes.specs.Classes.{is_open_round}
 use Rattle.part_walk.specs.declared.walk.Around.{Around}
 use Rattle.part_walk.specs.declared.walk.Around.TheVariants as around
 use Rattle.part_walk.specs.declared.walk.Outcome.{Outcome}
@@ -9,7 +10,7 @@ use Rattle.part_walk.specs.declared.walk.Outcome.TheVariants as outcome
 use Rattle.part_walk.specs.declared.walk.Walk.{Walk}
 use Rattle.part_walk.specs.Reading.{Reading, EndsOutside, EndsInBody, Never, GoesOn}
 use Rattle.part_walk.specs.declared.bodies.Head.{Head}
-use Rattle.part_walk.specs.Walk.{end_in_body, is_some, left}
+use Rattle.part_walk.specs.Walk.{end_in_body, headed_by, is_some, left}
 
 -- a token of a body may tell where the part ends, or changes what is known in another way than by its class
 abbrev pub tells_end : Walk → ℕ → Bool
@@ -37,6 +38,26 @@ group_passed walk place id class =
       asked = None;
       behind = id + 1;
       last = record walk.last { class = class; id = id; apart = false };
+    }
+
+-- this opens a group
+abbrev pub opens_group : TokenClass → Bool
+opens_group OpenRound = true
+opens_group OpenSquare = true
+opens_group _ = false
+
+-- behind a token of a body that begins no statement, ends none and opens no body, where no part can end
+abbrev pub plain_passed : Walk → ℕ → TokenClass → Walk
+plain_passed walk id class =
+    record walk {
+      place = walk.place + 1;
+      asked = None;
+      behind = id + 1;
+      last = record walk.last {
+        class = class;
+        id = id;
+        headed = if is_open_round class then headed_by walk.last.class else walk.last.headed;
+      };
     }
 
 -- the part ends before a `{`, by what that stands in

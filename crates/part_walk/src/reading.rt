@@ -2,7 +2,7 @@
 
 ghost use Rattle.std.specs.Prelude.{◌≡◌, ◌<◌, length};
 ghost use Rattle.part_walk.specs.declared.walk.Around.TheVariants.{Outside, Body};
-ghost use Rattle.part_walk.specs.Steps.{read_so, StaysWhereItEnds};
+ghost use Rattle.part_walk.specs.Steps.{opens_group, read_so, StaysWhereItEnds};
 ghost use Rattle.part_walk.specs.Walk.{reading};
 
 use crate::walk::{Around, Outcome, Walk, asked_at, is_lost};
@@ -62,6 +62,14 @@ fn read_in_body(
     Outcome::GoesOn
 }
 
+/// Whether a token is a `(` or `[`.
+#[inline(always)]
+fn opens_group(class: TokenClass) -> bool
+    ensures { result ≡ opens_group class }
+{
+    matches!(class, TokenClass::OpenRound | TokenClass::OpenSquare)
+}
+
 /// What the next item tells. Where the part goes on behind it, so does the way; else it stays.
 #[inline(always)]
 pub fn read(
@@ -79,7 +87,13 @@ pub fn read(
 {
     match around {
         Around::Outside => read_outside(arena, walk, id, class),
-        Around::Body => read_in_body(arena, walk, id, class),
+        Around::Body => {
+            if opens_group(class) && !walk.may_end(Around::Body, id) {
+                walk.pass_opener(id, class);
+                return Outcome::GoesOn;
+            }
+            read_in_body(arena, walk, id, class)
+        }
         Around::Group => {
             walk.pass_in_group(id, class);
             Outcome::GoesOn

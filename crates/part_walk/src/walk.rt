@@ -6,7 +6,7 @@ ghost use Rattle.token_classes.specs.Classes.{is_else};
 ghost use Rattle.token_classes.specs.declared.class.TokenClass.TheVariants.{OpenBrace};
 ghost use Rattle.part_walk.specs.Places.{place_in};
 ghost use Rattle.part_walk.specs.Reading.{GoesOn};
-ghost use Rattle.part_walk.specs.Steps.{body_passed, ends_before_brace, group_passed, may_end, passed};
+ghost use Rattle.part_walk.specs.Steps.{body_passed, ends_before_brace, group_passed, may_end, passed, plain_passed};
 ghost use Rattle.part_walk.specs.Walk.{behind_group, behind, is_end, is_between, is_lost, asked_at, asked_in_body};
 ghost use Rattle.part_walk.specs.Walk.{is_apart, is_body, is_commented, next_declaration, begins_outside, opening};
 ghost use Rattle.part_walk.specs.Walk.{start, is_record, is_label, is_leading, begins_statement, begins_behind};
@@ -632,6 +632,25 @@ impl Walk {
         self.asked = None;
         self.place += 1;
         self.behind = id.0 + 1;
+    }
+
+    /// Passes the next token, a `(` or `[` that stands directly in a body where no part can end.
+    #[inline(always)]
+    pub(crate) fn pass_opener(&mut self, id: TokenId, class: TokenClass)
+        requires small { id.0 < 4294967295 }
+        requires room { self.old.place < 4294967295 }
+        ensures { self.new ≡ plain_passed self.old id.0 class }
+    {
+        self.place += 1;
+        self.asked = None;
+        self.behind = id.0 + 1;
+        self.last.headed = if class.is_open_round() {
+            Headed::by(self.last.class)
+        } else {
+            self.last.headed
+        };
+        self.last.class = class;
+        self.last.id = id.0;
     }
 
     /// Passes the next item, which stands in a group.

@@ -15,7 +15,7 @@ use bumpalo::Bump;
 use line_tokens::NoMemory;
 use part_walk::BodyPlace;
 use token_arena::TokenArena;
-use view_parts::PartsEnd;
+use view_parts::{PartsEnd, near_segment};
 
 /// Where parts of a view end, as its first items tell.
 #[derive(Clone, Copy)]
@@ -89,9 +89,10 @@ pub fn note_bound<'k>(
         return Ok(());
     };
     let items = arena.len();
-    let mut near = way.segment;
+    let mut near = near_segment(&window.view, told - 1, way.segment);
     let last = window.view.at_near(told - 1, &mut near);
     prove!(last.0 < items);
+    way.segment = near_segment(&window.view, parts.end, way.segment);
     // The next part begins there, and its segment is found then.
     let item = window.view.at_near(parts.end, &mut way.segment);
     way.told = way.told.max(last.0 + 1);

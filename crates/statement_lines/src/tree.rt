@@ -301,6 +301,7 @@ fn take_line(
 ///
 /// `docs/PROFILE.md` says under "Statements and lines" which lines there are, and what their levels and kinds are. The
 /// lines cut the tokens whole and in order. Want of memory is the only error.
+#[inline(never)]
 pub fn tree_lines<'r>(
     braces: &Braces,
     tokens: &[CodeToken],

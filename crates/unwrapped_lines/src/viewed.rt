@@ -209,6 +209,7 @@ fn push_other<'r>(
 }
 
 /// Appends the tokens of the segment with a number that are no comments, with their partners, and notes the others.
+#[inline(never)]
 fn push_segment<'r>(
     arena: &TokenArena<'_, '_>,
     segments: &[Segment],

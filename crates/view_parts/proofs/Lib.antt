@@ -19,3 +19,6 @@ pub mod BodyRows
 pub mod GroupsPassed
 pub mod QuietPassed
 pub mod ReadItems
+pub mod FirstTold
+pub mod FlatTokens
+pub mod Sixteen

@@ -1,36 +1,33 @@
 -- Tokens in a row that tell nothing.
-use Rattle.std.proofs.Common.{◌≡◌, ◌∙◌, ℕ, zero, suc, ◌+◌, ◌-◌, ◌<◌, ◌≤◌, Bool, true, false, ◌==◌, nat_le, not, ◌&&◌}
-use Rattle.std.proofs.Common.{◌||◌, Option, Some, None, List, [], length, get_or, refl, sym, ap, subst, arith}
+use Rattle.std.proofs.Common.{◌≡◌, ◌∙◌, ℕ, zero, suc, ◌+◌, ◌<◌, ◌≤◌, Bool, true, false, ◌==◌, nat_le, not, ◌&&◌}
+use Rattle.std.proofs.Common.{◌||◌, Option, None, List, [], length, get_or, refl, sym, ap, subst, arith}
 use Rattle.std.specs.Prelude.{if◌then◌else◌}
 use Rattle.std.proofs.lemmas.Bool.Decides.{nat_tests}
-use Rattle.std.proofs.Math.Bool.{and-true}
 use Rattle.token_arena.specs.Gaps.{Contents}
 use Rattle.token_classes.specs.declared.class.TokenClass.{TokenClass}
 use Rattle.token_classes.specs.declared.class.TokenClass.TheVariants.{OpenRound, CloseRound, OpenSquare, CloseSquare}
-use Rattle.token_classes.specs.declared.class.TokenClass.TheVariants.{OpenBrace, CloseBrace, Else}
-use Rattle.token_classes.specs.Classes.{is_bracket, is_call_word, is_comment, is_control, is_else, is_open_brace}
-use Rattle.token_classes.specs.Classes.{is_open_round, is_opener, is_semicolon, is_word}
+use Rattle.token_classes.specs.declared.class.TokenClass.TheVariants.{OpenBrace, CloseBrace}
+use Rattle.token_classes.specs.Classes.{is_bracket, is_comment, is_control, is_open_brace}
+use Rattle.token_classes.specs.Classes.{is_open_round, is_opener, is_semicolon}
 use Rattle.item_classes.specs.Viewed.{item_class}
 use Rattle.token_classes.specs.declared.pairing.Opener.{Opener}
 use Rattle.token_classes.specs.Partners.{Matching}
 use Rattle.token_classes.proofs.BracketLemmas.{other_step}
 use Rattle.part_walk.specs.declared.walk.Around.{Around}
 use Rattle.part_walk.specs.declared.walk.Around.TheVariants as around
-use Rattle.part_walk.specs.declared.walk.Begun.{Begun}
-use Rattle.part_walk.specs.declared.walk.Begun.TheVariants.{Unknown, With, Behind}
 use Rattle.part_walk.specs.declared.bodies.Head.{Head}
 use Rattle.part_walk.specs.declared.walk.Headed.{Headed}
-use Rattle.part_walk.specs.declared.walk.LastToken.{LastToken}
 use Rattle.part_walk.specs.declared.walk.Walk.{Walk}
 use Rattle.part_walk.specs.Places.{Place}
 use Rattle.part_walk.specs.Reading.{Reading, GoesOn}
 use Rattle.view_parts.specs.Quiet.{is_group, is_held, is_quiet, is_telling}
-use Rattle.part_walk.specs.Steps.{may_end, passed, tells_end}
-use Rattle.part_walk.specs.Walk.{begins_behind, begins_block, begun_before, body_kind, end_in_body, ends_apart}
-use Rattle.part_walk.specs.Walk.{ends_in_row, ends_inside_or, goes_on_with, head_of_kind, headed_by, heads_len}
-use Rattle.part_walk.specs.Walk.{heads_structure, in_body, in_group, is_apart, is_body, is_label, is_leading, is_record}
-use Rattle.part_walk.specs.Walk.{kept_begun, next_begun, next_last, opened_head, parts_statements, past_bracket}
-use Rattle.part_walk.specs.Walk.{past_comment, reading}
+use Rattle.part_walk.specs.Steps.{may_end, passed, plain_passed}
+use Rattle.part_walk.proofs.PlainTokens.{IsPlain, held_of, plain_reading}
+use Rattle.part_walk.specs.Walk.{begun_before, body_kind}
+use Rattle.part_walk.specs.Walk.{head_of_kind, headed_by, heads_len}
+use Rattle.part_walk.specs.Walk.{in_group, is_body, is_label, is_record}
+use Rattle.part_walk.specs.Walk.{opened_head, past_bracket}
+use Rattle.part_walk.specs.Walk.{reading}
 use Rattle.part_walk.specs.Brackets.{around_of, bodies_behind, is_left, left_innermost, waiting_behind, walk_behind}
 use Rattle.part_walk.specs.Brackets.{without_innermost}
 use Rattle.view_parts.proofs.Walked.{Passes, goes_on}
@@ -60,16 +57,7 @@ quiet_waits class place waiting is =
     none : (kind : TokenClass) → class ≡ kind → is_bracket kind ≡ true → ⊥
     none kind e bracket = differ (sym bracket ∙ (ap (λ (c : TokenClass). is_bracket c) (sym e) ∙ is))
 
--- ## Their classes
-
--- a token of a body that tells nothing, where a label holds the part's end or none does
-record IsPlain (held : Bool) (class : TokenClass) : Type 0 where
-  label : is_label class ≡ false
-  control : is_control class ≡ false
-  record_word : is_record class ≡ false
-  round : is_open_round class ≡ false
-  brace : is_open_brace class ≡ false
-  ends : held && is_semicolon class ≡ false
+-- ## In a body
 
 no_round : (class : TokenClass) → is_bracket class ≡ false → is_open_round class ≡ false
 no_round OpenRound never = cc
@@ -82,7 +70,7 @@ no_brace _ never = refl
 plain_of : (held : Bool) (class : TokenClass) → is_bracket class ≡ false → not (is_telling held class) ≡ true → IsPlain held class
 plain_of held class flat quiet =
     let none = none_told (is_label class) (is_control class) (is_record class) (held && is_semicolon class) quiet in
-    record { label = none.0; control = none.1; record_word = none.2; round = no_round class flat; brace = no_brace class flat; ends = none.3 }
+    record { label = none.0; control = none.1; record_word = none.2; brace = no_brace class flat; ends = none.3 }
   where
     none_told : (label control word ends : Bool) → not (label || control || word || ends) ≡ true → (label ≡ false) × (control ≡ false) × (word ≡ false) × (ends ≡ false)
     none_told false false false false e = (refl, refl, refl, refl)
@@ -91,129 +79,20 @@ plain_of held class flat quiet =
     none_told false false true ends e = cc
     none_told false false false true e = cc
 
--- ## In a body
-
--- what is known where no token may tell the end by its class
-record IsHeld (walk : Walk) (id : ℕ) : Type 0 where
-  row : not (id == walk.behind) ≡ false
-  apart : walk.last.apart ≡ false
-  low : nat_le 512 walk.place ≡ false
-  structure : walk.last.structure ≡ false
-
-held_of : (walk : Walk) (id : ℕ) → tells_end walk id ≡ false → IsHeld walk id
-held_of walk id never =
-    let all = all_false (not (id == walk.behind)) walk.last.apart (nat_le 512 walk.place) walk.last.structure never in
-    record { row = all.0; apart = all.1; low = all.2; structure = all.3 }
+quiet_body : (walk : Walk) (id : ℕ) (class : TokenClass) → is_bracket class ≡ false → passed walk around.Body (walk.place + 1) id class ≡ plain_passed walk id class
+quiet_body walk id class flat = by_round (is_open_round class) (no_round class flat)
   where
-    all_false : (a b c d : Bool) → a || b || c || d ≡ false → (a ≡ false) × (b ≡ false) × (c ≡ false) × (d ≡ false)
-    all_false false false false false is = (refl, refl, refl, refl)
-    all_false true b c d is = cc
-    all_false false true c d is = cc
-    all_false false false true d is = cc
-    all_false false false false true is = cc
+    made : Headed → Walk
+    made headed = record walk { place = walk.place + 1; asked = None; behind = id + 1; last = record walk.last { class = class; id = id; headed = headed } }
+
+    by_round : (round : Bool) → round ≡ false → made walk.last.headed ≡ made (if round then headed_by walk.last.class else walk.last.headed)
+    by_round true e = absurd (differ e)
+    by_round false e = refl
+
+-- ## In a group
 
 none_false : (a b c d : Bool) → a ≡ false → b ≡ false → c ≡ false → d ≡ false → a || b || c || d ≡ false
 none_false a b c d e f g h = cc
-
--- `else` is the word of a control statement
-no_else : (class : TokenClass) → is_control class ≡ false → is_else class ≡ false
-no_else Else e = cc
-no_else _ e = refl
-
-quiet_begun : (walk : Walk) (id : ℕ) (class : TokenClass) → IsPlain (is_held walk) class → walk.begun ≡ next_begun walk id class
-quiet_begun walk id class plain = by_begins (begins_behind walk.last) (is_leading class) leads_none
-  where
-    by_word : (control other word brace : Bool) → control ≡ false → word ≡ false → brace ≡ false → ((control && not other) || (word || brace)) ≡ false
-    by_word false other false false e f g = refl
-    by_word true other word brace e f g = absurd (differ e)
-    by_word false other true brace e f g = absurd (differ f)
-    by_word false other false true e f g = absurd (differ g)
-
-    leads_none : is_leading class ≡ false
-    leads_none = by_word (is_control class) (is_else class) (is_record class) (is_open_brace class) plain.control plain.record_word plain.brace
-
-    by_kind : (leads other goes : Bool) (head : Head) → leads ≡ false → other ≡ false → Behind head ≡ (if (leads || other) && not goes then Unknown else Behind head)
-    by_kind true other goes head e f = absurd (differ e)
-    by_kind false true goes head e f = absurd (differ f)
-    by_kind false false goes head e f = refl
-
-    kept : (begun : Begun) → begun ≡ kept_begun walk.last class begun
-    kept Unknown = refl
-    kept (With token) = refl
-    kept (Behind head) = by_kind (is_leading class) (is_else class) (goes_on_with walk.last class) head leads_none (no_else class plain.control)
-
-    by_begins : (begins leads : Bool) → leads ≡ false → walk.begun ≡ (if begins && leads then With (record { id = id; place = walk.place }) else kept_begun walk.last class walk.begun)
-    by_begins true true e = absurd (differ e)
-    by_begins true false e = kept walk.begun
-    by_begins false leads e = kept walk.begun
-
-quiet_last : (walk : Walk) (id : ℕ) (class : TokenClass) → IsPlain (is_held walk) class → IsHeld walk id → record walk.last { class = class; id = id } ≡ next_last walk.place walk.last id class
-quiet_last walk id class plain is =
-    let last = walk.last in
-    ap (λ b. made b last.commented last.headed last.block last.structure last.held) is.apart
-    ∙ (ap (λ b. made false b last.headed last.block last.structure last.held) (commented (nat_le 512 walk.place) is.low)
-    ∙ (ap (λ (h : Headed). made false (last.commented && not (nat_le 512 walk.place && begins_behind last)) h last.block last.structure last.held) (headed (is_open_round class) plain.round)
-    ∙ (ap (λ (o : Option ℕ). made false (last.commented && not (nat_le 512 walk.place && begins_behind last)) (if is_open_round class then headed_by last.class else last.headed) o last.structure last.held) (block (is_open_brace class) plain.brace)
-    ∙ (ap (λ (o : Bool). made false (last.commented && not (nat_le 512 walk.place && begins_behind last)) (if is_open_round class then headed_by last.class else last.headed)
-    (if is_open_brace class then (if begins_block last then Some id else None) else last.block) o last.held) (structure (is_record class) (is_word class || (is_open_round class && is_call_word last.class)) last.structure is.structure plain.record_word)
-    ∙ ap (λ n. made false (last.commented && not (nat_le 512 walk.place && begins_behind last)) (if is_open_round class then headed_by last.class else last.headed)
-    (if is_open_brace class then (if begins_block last then Some id else None) else last.block) (heads_structure last class) n) (held (is_semicolon class) (is_label class) plain.ends plain.label)))))
-  where
-    made : Bool → Bool → Headed → Option ℕ → Bool → ℕ → LastToken
-    made apart commented headed block structure held = record { class = class; id = id; apart = apart; commented = commented; headed = headed; block = block; structure = structure; held = held }
-
-    commented : (far : Bool) → far ≡ false → walk.last.commented ≡ walk.last.commented && not (far && begins_behind walk.last)
-    commented true e = absurd (differ e)
-    commented false e = by_test walk.last.commented
-      where
-        by_test : (b : Bool) → b ≡ b && true
-        by_test true = refl
-        by_test false = refl
-
-    headed : (round : Bool) → round ≡ false → walk.last.headed ≡ (if round then headed_by walk.last.class else walk.last.headed)
-    headed true e = absurd (differ e)
-    headed false e = refl
-
-    block : (brace : Bool) → brace ≡ false → walk.last.block ≡ (if brace then (if begins_block walk.last then Some id else None) else walk.last.block)
-    block true e = absurd (differ e)
-    block false e = refl
-
-    structure : (begins in_head was : Bool) → was ≡ false → begins ≡ false → was ≡ begins || (was && in_head)
-    structure begins in_head was none e = cc
-
-    none_holds : is_held walk && true ≡ false → walk.last.held ≡ 0
-    none_holds e = (let free = sym (and-true (is_held walk)) ∙ e in grind (arith, nat_tests, free))
-
-    held : (semicolon label : Bool) → is_held walk && semicolon ≡ false → label ≡ false → walk.last.held ≡ (if semicolon then walk.last.held - 1 else (if label then 3 else walk.last.held))
-    held true label ends e = (let none = none_holds ends in omega (arith, none))
-    held false true ends e = absurd (differ e)
-    held false false ends e = refl
-
-quiet_body : (walk : Walk) (id : ℕ) (class : TokenClass) → IsPlain (is_held walk) class → IsHeld walk id → passed walk around.Body (walk.place + 1) id class ≡ in_body walk id class
-quiet_body walk id class plain is =
-    ap (λ (b : Begun). made b (record walk.last { class = class; id = id })) (quiet_begun walk id class plain) ∙ ap (λ (l : LastToken). made (next_begun walk id class) l) (quiet_last walk id class plain is)
-  where
-    made : Begun → LastToken → Walk
-    made begun last = record walk { place = walk.place + 1; asked = None; begun = begun; behind = id + 1; last = last }
-
-quiet_end : (walk : Walk) (id : ℕ) (class : TokenClass) → IsHeld walk id → end_in_body walk id class ≡ None
-quiet_end walk id class is = by_parts (parts_statements walk class) (is_apart walk id) (by_apart walk.last.apart (not (id == walk.behind)) is.apart is.row)
-  where
-    by_apart : (apart gap : Bool) → apart ≡ false → gap ≡ false → apart || gap ≡ false
-    by_apart false false e f = refl
-    by_apart true gap e f = absurd (differ e)
-    by_apart false true e f = absurd (differ f)
-
-    by_far : (far next silent : Bool) → far ≡ false → (if far && next && silent then Some walk.place else None) ≡ None
-    by_far true next silent e = absurd (differ e)
-    by_far false next silent e = refl
-
-    by_parts : (parts apart : Bool) → apart ≡ false → (if parts then (if apart then ends_apart walk else ends_in_row walk id) else None) ≡ None
-    by_parts false apart e = refl
-    by_parts true true e = absurd (differ e)
-    by_parts true false e = by_far (nat_le 512 walk.place) (id == walk.last.id + 1) (not walk.last.commented) is.low
-
--- ## In a group
 
 quiet_group : (walk : Walk) (id : ℕ) (class : TokenClass) → is_bracket class ≡ false → is_comment class ≡ false → passed walk around.Group (walk.place + 1) id class ≡ in_group walk id class
 quiet_group walk id class flat silent = by_kind (is_bracket class) (is_comment class) flat silent
@@ -243,10 +122,8 @@ quiet_reading : (arena : Contents) (walk : Walk) (stands : Around) (id : ℕ) (c
 quiet_reading arena walk around.Outside id class never flat silent word = absurd (differ never)
 quiet_reading arena walk around.Group id class never flat silent word = ap (λ (w : Walk). GoesOn w) (quiet_group walk id class flat silent)
 quiet_reading arena walk around.Body id class never flat silent word =
-    let is = held_of walk id never in
-    ap (λ (w : Walk). GoesOn w) (quiet_body walk id class (plain_of (is_held walk) class flat word) is)
-    ∙ (ap (λ (ends : Option ℕ). ends_inside_or ends (in_body walk id class)) (sym (quiet_end walk id class is))
-    ∙ ap (λ b. if b then GoesOn (past_comment arena walk id) else ends_inside_or (end_in_body walk id class) (in_body walk id class)) (sym silent))
+    ap (λ (w : Walk). GoesOn w) (quiet_body walk id class flat)
+    ∙ plain_reading arena walk id class never silent (plain_of (is_held walk) class flat word)
 
 opens_none : (walk : Walk) (stands : Around) (bodies : List Head) (id : ℕ) (class : TokenClass) → is_bracket class ≡ false → opened_head walk stands bodies id class ≡ None
 opens_none walk stands bodies id class flat = by_brace (is_open_brace class) (no_brace class flat)

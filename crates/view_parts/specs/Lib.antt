@@ -1,4 +1,5 @@
 pub mod Known
+pub mod Lanes
 pub mod Notes
 pub mod Parts
 pub mod Quiet

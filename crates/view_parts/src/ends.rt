@@ -3,6 +3,7 @@
 ghost use Rattle.std.specs.Prelude.{◌&&◌, ◌||◌, ◌≡◌, ◌<◌, ◌≤◌, ◌+◌, ◌-◌, ◌^◌, ℕ, true, false, not, All, length, drop};
 ghost use Rattle.std.specs.Prelude.{take, get_or, slice_range, IfOk, IfSome, None, Some};
 ghost use Rattle.std.specs.Option.{ForNone, ForSome};
+ghost use Rattle.std.specs.List.{prefix_len};
 ghost use Rattle.token_arena.specs.Ids.{Increase};
 ghost use Rattle.token_classes.specs.declared.class.TokenClass.{TokenClass};
 ghost use Rattle.token_classes.specs.Classes.{is_close_brace, is_open_brace};
@@ -12,10 +13,12 @@ ghost use Rattle.view_parts.specs.Parts.{part_inside, part_len, EndsBehind, Stan
 ghost use Rattle.part_walk.specs.Places.{place_in};
 ghost use Rattle.part_walk.specs.declared.walk.Before.TheVariants as Before;
 ghost use Rattle.view_parts.specs.Rows.{IsRow};
+ghost use Rattle.view_parts.specs.Lanes.{is_flat};
 ghost use Rattle.view_parts.specs.Quiet.{Closes, PassesQuiet, closes_group, is_quiet};
 ghost use Rattle.part_walk.specs.Steps.{ends_before_brace};
 
 use crate::known::PartsEnd;
+use crate::lanes::{LANES, flat_count, quiet_in_body, quiet_in_group};
 use crate::row::{Row, item_at};
 use bumpalo::Bump;
 use line_tokens::{NoMemory, TokenId};
@@ -116,9 +119,9 @@ fn is_quiet(around: Around, held: bool, class: TokenClass) -> bool
     (telling >> (class as u8)) & 1 == 0
 }
 
-/// How many quiet tokens stand at the beginning of these.
-#[inline(always)]
-fn quiet_count(around: Around, held: bool, classes: &[TokenClass]) -> usize
+/// How many quiet tokens stand at the beginning of these, one after another.
+#[inline(never)]
+fn few_quiet(around: Around, held: bool, classes: &[TokenClass]) -> usize
     ensures within { result ≤ length classes.now }
     ensures quiet { (k : ℕ) → (d : TokenClass) → k < result → is_quiet around held (get_or classes.now k d) ≡ true }
 {
@@ -127,6 +130,36 @@ fn quiet_count(around: Around, held: bool, classes: &[TokenClass]) -> usize
         count += 1;
     }
     count
+}
+
+/// How many of sixteen tokens are quiet at their beginning, by what they stand in, where no label holds.
+#[inline(always)]
+fn quiet_of_sixteen(around: Around, classes: &[TokenClass; LANES]) -> usize
+    ensures { result ≡ prefix_len (is_quiet around false) classes.now }
+{
+    match around {
+        Around::Outside => quiet_in_body(classes),
+        Around::Body => quiet_in_body(classes),
+        Around::Group => quiet_in_group(classes),
+    }
+}
+
+/// How many quiet tokens stand at the beginning of these, at most so many. Most are told by the first sixteen.
+#[inline(always)]
+fn quiet_count(around: Around, held: bool, classes: &[TokenClass], most: usize) -> usize
+    requires { most ≤ length classes.now }
+    ensures within { result ≤ most }
+    ensures quiet { (k : ℕ) → (d : TokenClass) → k < result → is_quiet around held (get_or classes.now k d) ≡ true }
+{
+    if !held {
+        if let Some((sixteen, _)) = classes.split_first_chunk::<LANES>() {
+            let count = quiet_of_sixteen(around, sixteen);
+            if count < LANES || most <= LANES {
+                return count.min(most);
+            }
+        }
+    }
+    few_quiet(around, held, &classes[..most])
 }
 
 /// How many quiet tokens stand in a row from a place of a part on: in a body up to where parts may end anywhere.
@@ -153,9 +186,19 @@ fn quiet_from(
         Around::Outside => 0,
         Around::Body => {
             let end = row.end.min(first.saturating_add(LEAST_IN_ROW));
-            quiet_count(Around::Body, held, &all[next..end as usize + shift])
+            quiet_count(
+                Around::Body,
+                held,
+                &all[next..],
+                end as usize + shift - next,
+            )
         }
-        Around::Group => quiet_count(Around::Group, held, &all[next..row.end as usize + shift]),
+        Around::Group => quiet_count(
+            Around::Group,
+            false,
+            &all[next..],
+            row.end as usize + shift - next,
+        ),
     };
     count as u32
 }
@@ -225,17 +268,34 @@ fn closes_group(opener: TokenClass, closer: TokenClass) -> bool
     }
 }
 
-/// How many of these tokens stand up to the `}` that closes the brace before them, if it is among them.
+/// How many tokens these begin with that are no braces, as far as is told at once.
 #[inline(always)]
-fn closing_len(classes: &[TokenClass]) -> Option<usize>
-    ensures within { IfSome result (λ len. len ≤ length classes.now) }
+fn flat_len(classes: &[TokenClass]) -> usize
+    ensures within { result ≤ length classes.now }
+    ensures flat { (k : ℕ) → (d : TokenClass) → k < result → is_flat (get_or classes.now k d) ≡ true }
+{
+    match classes.split_first_chunk::<LANES>() {
+        Some((sixteen, _)) => flat_count(sixteen),
+        None => 0,
+    }
+}
+
+/// How many of these tokens stand up to the `}` that closes the brace before them, if it is among so many.
+#[inline(always)]
+fn closing_len(classes: &[TokenClass], most: usize) -> Option<usize>
+    requires { most ≤ length classes.now }
+    ensures within { IfSome result (λ len. len ≤ most) }
     ensures closes { IfSome result (λ len. Closes 1 (take len classes.now)) }
 {
     let mut depth: usize = 1;
     let mut count: usize = 0;
-    while count < classes.len() {
-        let class = classes[count];
-        count += 1;
+    while count < most {
+        let next = count + flat_len(&classes[count..]);
+        if next >= most {
+            return None;
+        }
+        let class = classes[next];
+        count = next + 1;
         if is_brace(class) {
             depth = if class.is_open_brace() {
                 depth + 1
@@ -314,7 +374,7 @@ fn passed_body(
     let shift = row.shift as usize;
     let next = (first + place) as usize + 1 + shift;
     let end = row.end.min(first.saturating_add(LEAST_IN_ROW));
-    let count = closing_len(&all[next..end as usize + shift])?;
+    let count = closing_len(&all[next..], end as usize + shift - next)?;
     Some((head, count as u32))
 }
 

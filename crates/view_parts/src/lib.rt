@@ -9,6 +9,7 @@ mod body;
 mod ends;
 mod joined;
 mod known;
+mod lanes;
 mod notes;
 mod row;
 
@@ -18,4 +19,4 @@ pub use joined::{join_rows, known_parts_end};
 pub use known::{KnownEnd, KnownRow, KnownSpan, KnownSpans, PartsEnd, known_part_end};
 pub use line_tokens::NoMemory;
 pub use notes::KnownEnds;
-pub use row::row_behind;
+pub use row::{near_segment, row_behind};

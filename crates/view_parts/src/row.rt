@@ -28,6 +28,23 @@ pub fn row_behind(view: &View<'_>, place: u32, id: TokenId, number: usize) -> u3
     0
 }
 
+/// The number of a segment near this one that may have a place: who goes from place to place, mostly comes to the next
+/// one or back to the one before.
+#[inline(always)]
+pub fn near_segment(view: &View<'_>, place: u32, number: usize) -> usize {
+    let segments = view.segments();
+    if number >= segments.len() {
+        return number;
+    }
+    if place < segments[number].before {
+        return number.saturating_sub(1);
+    }
+    if number + 1 < segments.len() && segments[number + 1].before <= place {
+        return number + 1;
+    }
+    number
+}
+
 /// Places of a view whose items stand in a row.
 #[derive(Clone, Copy)]
 pub(crate) struct Row {
@@ -50,6 +67,7 @@ pub(crate) fn item_at(view: &View<'_>, place: u32, row: &mut Row, segment: &mut 
     ensures shift { result.0 ≡ place + row.new.shift }
 {
     if place >= row.end {
+        *segment = near_segment(view, place, *segment);
         let id = view.at_near(place, segment);
         let behind = row_behind(view, place, id, *segment);
         *row = Row {

@@ -2,7 +2,7 @@ use Rattle.std.proofs.Common.{◌≡◌, ◌∙◌, ◌⊎◌, inl, inr, ◌<◌
 use Rattle.std.proofs.lemmas.List.{get_or_default}
 use Rattle.token_classes.specs.declared.class.TokenClass.{TokenClass}
 use Rattle.view_parts.specs.Quiet.{is_quiet}
-use Rattle.view_parts.proofs.ends.quiet_count.Goals as goal
+use Rattle.view_parts.proofs.ends.few_quiet.Goals as goal
 
 earlier_or_here : (k n : ℕ) → k < n + 1 → (k < n) ⊎ (k ≡ n)
 earlier_or_here k n below = grind (arith, below)

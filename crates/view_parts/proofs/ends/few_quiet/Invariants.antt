@@ -1,7 +1,7 @@
 use Rattle.std.proofs.Common.{◌≡◌, ◌<◌, ◌≤◌, ◌-◌, ℕ, true, length, get_or}
 use Rattle.token_classes.specs.declared.class.TokenClass.{TokenClass}
 use Rattle.view_parts.specs.Quiet.{is_quiet}
-use Rattle.view_parts.proofs.ends.quiet_count.Given as goal
+use Rattle.view_parts.proofs.ends.few_quiet.Given as goal
 
 abbrev pub invariant-loop-count : goal.invariant-loop-count
 invariant-loop-count l = record {

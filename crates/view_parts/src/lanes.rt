@@ -1,0 +1,96 @@
+//! Classes of tokens, told of sixteen at once.
+
+ghost use Rattle.std.specs.Prelude.{◌≡◌, false, map};
+ghost use Rattle.std.specs.List.{prefix_len};
+ghost use Rattle.part_walk.specs.declared.walk.Around.TheVariants.{Body, Group};
+ghost use Rattle.view_parts.specs.Lanes.{is_flat, number_of};
+ghost use Rattle.view_parts.specs.Quiet.{is_quiet};
+
+use std::simd::prelude::*;
+use token_classes::TokenClass;
+
+/// So many tokens are told at once.
+pub(crate) const LANES: usize = 16;
+
+/// Which class it is, as they are listed.
+#[inline(always)]
+fn number_of(class: TokenClass) -> u8
+    ensures { result ≡ number_of class }
+{
+    class as u8
+}
+
+/// Which classes sixteen tokens have.
+#[inline(always)]
+fn numbers(classes: &[TokenClass; LANES]) -> u8x16
+    ensures { result ≡ map number_of classes.now }
+{
+    u8x16::from_array([
+        number_of(classes[0]),
+        number_of(classes[1]),
+        number_of(classes[2]),
+        number_of(classes[3]),
+        number_of(classes[4]),
+        number_of(classes[5]),
+        number_of(classes[6]),
+        number_of(classes[7]),
+        number_of(classes[8]),
+        number_of(classes[9]),
+        number_of(classes[10]),
+        number_of(classes[11]),
+        number_of(classes[12]),
+        number_of(classes[13]),
+        number_of(classes[14]),
+        number_of(classes[15]),
+    ])
+}
+
+/// How many of sixteen tokens stand before the first bracket or comment.
+#[inline(always)]
+pub(crate) fn quiet_in_group(classes: &[TokenClass; LANES]) -> usize
+    ensures { result ≡ prefix_len (is_quiet Group false) classes.now }
+{
+    let numbers = numbers(classes);
+    let from_bracket = numbers - u8x16::splat(TokenClass::OpenRound as u8);
+    let from_comment = numbers - u8x16::splat(TokenClass::LineComment as u8);
+    let bracket = from_bracket.simd_lt(u8x16::splat(6));
+    let comment = from_comment.simd_lt(u8x16::splat(2));
+    let told = (bracket | comment).to_bitmask();
+    if told == 0 {
+        return LANES;
+    }
+    told.trailing_zeros() as usize
+}
+
+/// How many of sixteen tokens stand before the first that tells something in a body, where no label holds.
+#[inline(always)]
+pub(crate) fn quiet_in_body(classes: &[TokenClass; LANES]) -> usize
+    ensures { result ≡ prefix_len (is_quiet Body false) classes.now }
+{
+    let numbers = numbers(classes);
+    let from_bracket = numbers - u8x16::splat(TokenClass::OpenRound as u8);
+    let from_comment = numbers - u8x16::splat(TokenClass::LineComment as u8);
+    let from_record = numbers - u8x16::splat(TokenClass::Struct as u8);
+    let bracket = from_bracket.simd_lt(u8x16::splat(6));
+    let comment = from_comment.simd_lt(u8x16::splat(2));
+    let record = from_record.simd_lt(u8x16::splat(2));
+    let control = numbers.simd_lt(u8x16::splat(8));
+    let told = (bracket | comment | record | control).to_bitmask();
+    if told == 0 {
+        return LANES;
+    }
+    told.trailing_zeros() as usize
+}
+
+/// How many of sixteen tokens stand before the first brace.
+#[inline(always)]
+pub(crate) fn flat_count(classes: &[TokenClass; LANES]) -> usize
+    ensures { result ≡ prefix_len is_flat classes.now }
+{
+    let from_brace = numbers(classes) - u8x16::splat(TokenClass::OpenBrace as u8);
+    let told = from_brace.simd_lt(u8x16::splat(2)).to_bitmask();
+    if told == 0 {
+        return LANES;
+    }
+    told.trailing_zeros() as usize
+}
