@@ -13,5 +13,5 @@ mod walk;
 pub use bodies::{BodyKind, BodyPlace, Head, opened_head, place_behind};
 pub use brackets::OpenBrackets;
 pub use line_tokens::NoMemory;
-pub use reading::read;
+pub use reading::{opens_group, read};
 pub use walk::{Around, Before, LEAST_IN_ROW, Outcome, Walk, start};

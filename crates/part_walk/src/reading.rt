@@ -64,7 +64,7 @@ fn read_in_body(
 
 /// Whether a token is a `(` or `[`.
 #[inline(always)]
-fn opens_group(class: TokenClass) -> bool
+pub fn opens_group(class: TokenClass) -> bool
     ensures { result ≡ opens_group class }
 {
     matches!(class, TokenClass::OpenRound | TokenClass::OpenSquare)

@@ -22,3 +22,4 @@ pub mod ReadItems
 pub mod FirstTold
 pub mod FlatTokens
 pub mod Sixteen
+pub mod OpenGroups

@@ -1,5 +1,5 @@
 -- What is known at an item that the code reads, and where a part ends that it tells.
-use Rattle.std.proofs.Common.{◌≡◌, ◌∙◌, ℕ, ◌+◌, ◌-◌, ◌<◌, ◌≤◌, true, false, Option, Some, None, List, length, drop}
+use Rattle.std.proofs.Common.{◌≡◌, ◌∙◌, ℕ, ◌+◌, ◌-◌, ◌<◌, ◌≤◌, Option, Some, None, List, [], ◌∷◌, length, take, drop}
 use Rattle.std.proofs.Common.{get_or, refl, sym, ap, subst, arith}
 use Rattle.std.specs.Prelude.{◌^◌, slice_range}
 use Rattle.std.specs.Option.{ForNone, ForSome}
@@ -12,14 +12,13 @@ use Rattle.item_classes.specs.Viewed.{AreWithin, item_classes}
 use Rattle.part_walk.specs.declared.bodies.Head.{Head}
 use Rattle.view_parts.specs.declared.row.Row.{Row}
 use Rattle.part_walk.specs.declared.walk.Around.{Around}
-use Rattle.part_walk.specs.declared.walk.Around.TheVariants as around
 use Rattle.part_walk.specs.declared.walk.Walk.{Walk}
 use Rattle.view_parts.specs.Parts.{Ended, part_inside, part_len, EndsBehind, StandsBefore}
 use Rattle.part_walk.specs.Brackets.{around_of}
 use Rattle.part_walk.specs.Places.{Place}
 use Rattle.part_walk.specs.Reading.{Reading}
 use Rattle.view_parts.specs.Rows.{IsRow}
-use Rattle.view_parts.specs.Quiet.{PassesQuiet, is_quiet}
+use Rattle.view_parts.specs.Quiet.{ClosesGroup, PassesQuiet}
 use Rattle.part_walk.specs.Walk.{reading}
 use Rattle.view_parts.proofs.InBodies.{stands_before}
 use Rattle.view_parts.proofs.PartEnds.{EndsNowhere, EndsSo, IsRead, ends_there, headed, seen_so}
@@ -94,11 +93,9 @@ item_row view first place len id row count inside kept at = record {
   behind = omega arith;
 }
 
--- the quiet tokens of a group, by their numbers
-pub group_quiet : (all : List TokenClass) (first place len id : ℕ) (row : Row) → id ≡ first + place + row.shift → ((k : ℕ) → (d : TokenClass) → first + place < k → k < first + place + len → is_quiet around.Group false (get_or all (k + row.shift) d) ≡ true)
-    → (k : ℕ) → (d : TokenClass) → 0 < k → k < len → is_quiet around.Group false (get_or all (id + k) d) ≡ true
-group_quiet all first place len id row shift quiet k d after_it before =
-    subst (λ n. is_quiet around.Group false (get_or all n d) ≡ true) (omega (arith, shift)) (quiet (first + place + k) d (omega (arith, after_it)) (omega (arith, before)))
+-- the tokens of a group, by their numbers
+pub group_tokens : (all : List TokenClass) (first place len id : ℕ) (row : Row) (opener : TokenClass) → id ≡ first + place + row.shift → ClosesGroup (opener ∷ []) (take len (drop (first + place + 1 + row.shift) all)) → ClosesGroup (opener ∷ []) (take len (drop (id + 1) all))
+group_tokens all first place len id row opener shift closes = subst (λ n. ClosesGroup (opener ∷ []) (take len (drop n all))) (omega (arith, shift)) closes
 
 -- the item and its place are numbers of the text
 pub record FitsText (place id stored : ℕ) : Type 0 where

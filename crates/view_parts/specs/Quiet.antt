@@ -1,6 +1,6 @@
 -- Tokens that tell nothing, and groups and bodies that are passed at once.
 use Rattle.std.specs.Prelude.{◌≡◌, ◌<◌, ◌≤◌, ℕ, suc, ◌+◌, ◌-◌, nat_lt, Bool, true, false, ◌&&◌, ◌||◌, not, List, []}
-use Rattle.std.specs.Prelude.{◌∷◌, get_or}
+use Rattle.std.specs.Prelude.{◌∷◌, get_or, if◌then◌else◌, replicate}
 use Rattle.token_classes.specs.declared.class.TokenClass.{TokenClass}
 use Rattle.token_classes.specs.declared.class.TokenClass.TheVariants.{OpenRound, OpenSquare, CloseSquare, OpenBrace}
 use Rattle.token_classes.specs.declared.class.TokenClass.TheVariants.{CloseBrace}
@@ -9,7 +9,8 @@ use Rattle.part_walk.specs.declared.walk.Around.{Around}
 use Rattle.part_walk.specs.declared.walk.Around.TheVariants as around
 use Rattle.part_walk.specs.declared.walk.Walk.{Walk}
 use Rattle.part_walk.specs.Walk.{is_label, is_record}
-use Rattle.part_walk.specs.Steps.{may_end, passed}
+use Rattle.part_walk.specs.Steps.{may_end, opens_group, passed}
+use Rattle.view_parts.specs.declared.groups.OpenKinds.{OpenKinds}
 
 abbrev pub is_group : Around → Bool
 is_group around.Group = true
@@ -37,11 +38,35 @@ pub record PassesQuiet (all : List TokenClass) (stands : Around) (walk : Walk) (
   pub low : 0 < n → stands ≡ around.Body → walk.place + n ≤ 512
   pub quiet : (k : ℕ) → (d : TokenClass) → k < n → is_quiet stands (is_held walk) (get_or all (id + k) d) ≡ true
 
+abbrev pub without_first : List TokenClass → List TokenClass
+without_first [] = []
+without_first (class ∷ classes) = classes
+
 -- this bracket closes a `(` or `[`
 abbrev pub closes_group : TokenClass → TokenClass → Bool
 closes_group OpenRound closer = is_close_round closer
 closes_group OpenSquare CloseSquare = true
 closes_group opener closer = false
+
+-- the openers of groups that wait behind a token, by their kinds, the innermost first
+abbrev pub kinds_behind : List TokenClass → TokenClass → List TokenClass
+kinds_behind kinds class =
+    if opens_group class then class ∷ kinds else (if is_bracket class then without_first kinds else kinds)
+
+-- in the innermost of these groups this token opens one or closes that, or tells nothing
+abbrev pub stands_in : List TokenClass → TokenClass → Bool
+stands_in [] class = false
+stands_in (kind ∷ kinds) class =
+    opens_group class || closes_group kind class || is_quiet around.Group false class
+
+-- these tokens close such groups, and not before the last of them
+abbrev pub ClosesGroup : List TokenClass → List TokenClass → Type 0
+ClosesGroup kinds [] = kinds ≡ []
+ClosesGroup kinds (class ∷ classes) = (stands_in kinds class ≡ true) × ClosesGroup (kinds_behind kinds class) classes
+
+-- the kinds of the brackets that are open
+abbrev pub kinds_in : OpenKinds → List TokenClass
+kinds_in kinds = if kinds.square then OpenSquare ∷ replicate kinds.rounds OpenRound else replicate kinds.rounds OpenRound
 
 -- so many braces are open behind this token
 abbrev pub depth_behind : ℕ → TokenClass → ℕ

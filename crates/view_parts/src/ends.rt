@@ -1,6 +1,6 @@
 //! Where the parts of a view end.
 
-ghost use Rattle.std.specs.Prelude.{◌&&◌, ◌||◌, ◌≡◌, ◌<◌, ◌≤◌, ◌+◌, ◌-◌, ◌^◌, ℕ, true, false, not, All, length, drop};
+ghost use Rattle.std.specs.Prelude.{◌&&◌, ◌||◌, ◌≡◌, ◌<◌, ◌≤◌, ◌∷◌, [], ◌+◌, ◌-◌, ◌^◌, ℕ, true, false, not, All, length, drop};
 ghost use Rattle.std.specs.Prelude.{take, get_or, slice_range, IfOk, IfSome, None, Some};
 ghost use Rattle.std.specs.Option.{ForNone, ForSome};
 ghost use Rattle.std.specs.List.{prefix_len};
@@ -14,9 +14,10 @@ ghost use Rattle.part_walk.specs.Places.{place_in};
 ghost use Rattle.part_walk.specs.declared.walk.Before.TheVariants as Before;
 ghost use Rattle.view_parts.specs.Rows.{IsRow};
 ghost use Rattle.view_parts.specs.Lanes.{is_flat};
-ghost use Rattle.view_parts.specs.Quiet.{Closes, PassesQuiet, closes_group, is_quiet};
-ghost use Rattle.part_walk.specs.Steps.{ends_before_brace};
+ghost use Rattle.view_parts.specs.Quiet.{Closes, ClosesGroup, PassesQuiet, is_quiet};
+ghost use Rattle.part_walk.specs.Steps.{ends_before_brace, opens_group};
 
+use crate::groups::group_len;
 use crate::known::PartsEnd;
 use crate::lanes::{LANES, flat_count, quiet_in_body, quiet_in_group};
 use crate::row::{Row, item_at};
@@ -24,7 +25,7 @@ use bumpalo::Bump;
 use line_tokens::{NoMemory, TokenId};
 use part_walk::{
     Around, Before, BodyPlace, Head, LEAST_IN_ROW, OpenBrackets, Outcome, Walk, opened_head,
-    place_behind, read, start,
+    opens_group, place_behind, read, start,
 };
 use token_arena::{TokenArena, View};
 use token_classes::TokenClass;
@@ -108,7 +109,7 @@ const TELLING_BEHIND_LABEL: u64 = TELLING | 1 << (TokenClass::Semicolon as u8);
 /// Whether a token changes nothing but the place and which token was the last, by what it stands in and whether a label
 /// holds the part's end.
 #[inline(always)]
-fn is_quiet(around: Around, held: bool, class: TokenClass) -> bool
+pub(crate) fn is_quiet(around: Around, held: bool, class: TokenClass) -> bool
     ensures { result ≡ is_quiet around held class }
 {
     let telling = match around {
@@ -256,18 +257,6 @@ fn is_brace(class: TokenClass) -> bool
     class.is_open_brace() || class.is_close_brace()
 }
 
-/// Whether a bracket closes a `(` or `[`.
-#[inline(always)]
-fn closes_group(opener: TokenClass, closer: TokenClass) -> bool
-    ensures { result ≡ closes_group opener closer }
-{
-    match opener {
-        TokenClass::OpenRound => closer.is_close_round(),
-        TokenClass::OpenSquare => matches!(closer, TokenClass::CloseSquare),
-        _ => false,
-    }
-}
-
 /// How many tokens these begin with that are no braces, as far as is told at once.
 #[inline(always)]
 fn flat_len(classes: &[TokenClass]) -> usize
@@ -310,8 +299,11 @@ fn closing_len(classes: &[TokenClass], most: usize) -> Option<usize>
     None
 }
 
+/// Up to so many items are looked at behind an opener. So brackets that nothing closes take no more than that each.
+const MOST_IN_GROUP: usize = 64;
+
 /// The bracket that closes a `(` or `[` at a place of a part, and how many items stand behind that up to it, where
-/// nothing but quiet tokens stands between them in its row.
+/// nothing but quiet tokens and such groups stands between them in its row.
 #[inline(always)]
 fn passed_group(
     opener: TokenClass,
@@ -323,27 +315,21 @@ fn passed_group(
     requires here { first + place < row.now.end }
     requires within { row.now.end + row.now.shift ≤ length all.now }
     ensures within { IfSome result (λ group. first + place + group.1 < row.now.end) }
-    ensures some { IfSome result (λ group. 0 < group.1) }
+    ensures opens { IfSome result (λ group. opens_group opener ≡ true) }
     ensures closer { IfSome result
         (λ group. (d : TokenClass) → group.0 ≡ get_or all.now (first + place + group.1 + row.now.shift) d) }
-    ensures closes { IfSome result (λ group. closes_group opener group.0 ≡ true) }
-    ensures quiet { IfSome result (λ group.
-        (k : ℕ) → (d : TokenClass) → first + place < k → k < first + place + group.1 →
-        is_quiet Group false (get_or all.now (k + row.now.shift) d) ≡ true) }
+    ensures closes { IfSome result (λ group.
+        ClosesGroup (opener ∷ []) (take group.1 (drop (first + place + 1 + row.now.shift) all.now))) }
 {
-    if !opener.is_opener() {
+    if !opens_group(opener) {
         return None;
     }
-    let quiet = quiet_from(Around::Group, false, all, first, place + 1, row);
-    let end = first + place + 1 + quiet;
-    if end >= row.end {
-        return None;
-    }
-    let closer = all[end as usize + row.shift as usize];
-    if !closes_group(opener, closer) {
-        return None;
-    }
-    Some((closer, quiet + 1))
+    let shift = row.shift as usize;
+    let next = (first + place) as usize + 1 + shift;
+    let most = (row.end as usize + shift - next).min(MOST_IN_GROUP);
+    let len = group_len(opener, &all[next..], most)?;
+    let closer = all[next + len - 1];
+    Some((closer, len as u32))
 }
 
 /// The head of the body that a `{` at a place of a part opens, and how many items stand behind that up to its `}`, if

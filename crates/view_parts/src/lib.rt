@@ -7,6 +7,7 @@
 
 mod body;
 mod ends;
+mod groups;
 mod joined;
 mod known;
 mod lanes;

@@ -29,7 +29,7 @@ use Rattle.view_parts.proofs.GroupsPassed.{read_group}
 use Rattle.part_walk.proofs.Heads.{heads_len-reverse}
 use Rattle.view_parts.proofs.Heads.{opened_brace, opened_none}
 use Rattle.view_parts.proofs.PartEnds.{ends_nowhere, read_first, read_flat, read_on}
-use Rattle.view_parts.proofs.ReadItems.{at_item, ends_at, ends_item, ends_with_view, fewer_left, fits_text, group_quiet}
+use Rattle.view_parts.proofs.ReadItems.{at_item, ends_at, ends_item, ends_with_view, fewer_left, fits_text, group_tokens}
 use Rattle.view_parts.proofs.ReadItems.{item_row, later_place, one_fewer, read_quiet_row, reads_item, row_behind_item}
 use Rattle.view_parts.proofs.ReadItems.{small_at, stands_here, told_fits, within_kept}
 use Rattle.view_parts.proofs.Rows.{row_later, row_stored}
@@ -650,13 +650,14 @@ loop-walk-preserved-in-Some-passed_group c =
     let group = c.in-Some-passed_group.ensures in
     let len = c.in-Some-passed_group.len in
     let passed = item_row view first walk.place len id row (length arena.tokens) group.within item.stored item.at in
+    let whole : length all ≡ length arena.tokens = ap (λ (cs : List TokenClass). length cs) c.requires.all ∙ length-map arena.tokens (class_of arena.dialect) in
     let opener = get_or all id If in
     let closer = c.in-Some-passed_group.closer in
     let there : closer ≡ get_or all (id + len) If = group.closer If ∙ ap (λ n. get_or all n If) passed.last in
     let later : c.pass_group.new.self.place ≡ walk.place + (1 + len) = ap (λ (w : Walk). w.place) c.pass_group.ensures ∙ passed.behind in
     record {
       read = read_group arena begins view first walk after c.pass_group.new.self bodies waiting c.loop-walk.brackets.braces read all id len opener closer If c.len-count.ensures.increase
-          passed.within passed.items passed.stored_last c.requires.all next goes group.some group.closes there (group_quiet all first walk.place len id row item.at.shift group.quiet) c.pass_group.ensures item.was;
+          passed.within passed.items passed.stored_last whole c.requires.all next goes group.opens there (group_tokens all first walk.place len id row opener item.at.shift group.closes) c.pass_group.ensures item.was;
       stands = here;
       row = row_behind_item view first walk.place _ (1 + len) id row later item.at;
     }

@@ -1,16 +1,21 @@
-use Rattle.std.proofs.Common.{◌∙◌, ◌+◌, get_or, sym, ap, arith}
-use Rattle.std.proofs.lemmas.List.{get_or_default}
+use Rattle.std.proofs.Common.{◌≡◌, ◌∙◌, ◌+◌, ◌-◌, [], ◌∷◌, List, length, length-drop, take, drop, get_or, sym, ap, subst, arith}
+use Rattle.std.proofs.lemmas.List.{get_or_default, take_all}
+use Rattle.token_classes.specs.declared.class.TokenClass.{TokenClass}
+use Rattle.view_parts.specs.Quiet.{ClosesGroup}
 use Rattle.view_parts.proofs.ends.passed_group.Goals as goal
 
 pub returns : goal.returns
 returns c =
     let all = c.args.all.now in
     let shift = c.args.row.now.shift in
-    let end = c.args.first + c.args.place + 1 + c.quiet_from-quiet.result in
+    let next = c.args.first + c.args.place + 1 + shift in
+    let len = c.in_ok-len.len in
+    let told = c.in_ok-len.ensures in
+    let most = c.min-most.ensures in
+    let behind : take (length all - next) (drop next all) ≡ drop next all = take_all (length all - next) (drop next all) (omega (arith, length-drop next all)) in
     record {
-      within = omega (arith, c.if-end-row.false);
-      some = omega arith;
-      closer = λ d. get_or_default all (end + shift) _ d (omega (arith, c.if-end-row.false, c.requires.within)) ∙ ap (λ k. get_or all k d) (omega arith);
-      closes = sym c.closes_group.ensures ∙ c.if-not-closes_group.false;
-      quiet = λ k d after_it before. c.quiet_from-quiet.ensures.quiet k d (omega (arith, after_it)) (omega (arith, before));
+      within = omega (arith, told.within, most, c.requires.here);
+      opens = sym c.opens_group.ensures ∙ c.if-not-opens_group.false;
+      closer = λ d. get_or_default all (next + len - 1) _ d (omega (arith, told.within, most, c.requires.here, c.requires.within)) ∙ ap (λ k. get_or all k d) (omega arith);
+      closes = subst (λ (cs : List TokenClass). ClosesGroup (c.args.opener ∷ []) (take len cs)) behind told.closes;
     }

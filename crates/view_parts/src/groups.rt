@@ -1,0 +1,96 @@
+//! Groups in round and square brackets that are passed at once.
+
+ghost use Rattle.std.specs.Prelude.{◌≡◌, ◌<◌, ◌≤◌, ◌+◌, ◌^◌, ◌∷◌, [], ℕ, false, true, get_or, length, take, IfSome};
+ghost use Rattle.std.specs.Prelude.{if◌then◌else◌, replicate};
+ghost use Rattle.token_classes.specs.declared.class.TokenClass.{TokenClass};
+ghost use Rattle.part_walk.specs.declared.walk.Around.TheVariants.{Group};
+ghost use Rattle.part_walk.specs.Steps.{opens_group};
+ghost use Rattle.view_parts.specs.Quiet.{ClosesGroup, is_quiet, kinds_behind, kinds_in, stands_in};
+
+use crate::ends::is_quiet;
+use crate::lanes::{LANES, quiet_in_group};
+use part_walk::Around;
+use token_classes::TokenClass;
+
+/// The brackets that are open: so many `(`, and whether a `[` in the innermost of them.
+#[derive(Clone, Copy, Drop)]
+pub(crate) struct OpenKinds {
+    rounds: usize,
+    square: bool,
+}
+
+/// How many quiet tokens of a group these begin with, as far as is told at once.
+#[inline(always)]
+fn quiet_len(classes: &[TokenClass]) -> usize
+    ensures within { result ≤ length classes.now }
+    ensures quiet { (k : ℕ) → (d : TokenClass) → k < result → is_quiet Group false (get_or classes.now k d) ≡ true }
+{
+    match classes.split_first_chunk::<LANES>() {
+        Some((sixteen, _)) => quiet_in_group(sixteen),
+        None => 0,
+    }
+}
+
+/// The brackets that are open behind a token, where these are before it. None is told where a bracket stands in a `[`.
+#[inline(always)]
+fn open_behind(kinds: OpenKinds, class: TokenClass) -> Option<OpenKinds>
+    requires some { 0 < length (kinds_in kinds) }
+    requires few { kinds.rounds < 2 ^ 60 }
+    ensures stands { IfSome result (λ next. stands_in (kinds_in kinds) class ≡ true) }
+    ensures kinds { IfSome result (λ next. kinds_in next ≡ kinds_behind (kinds_in kinds) class) }
+    ensures few { IfSome result (λ next. next.rounds ≤ kinds.rounds + 1) }
+{
+    if is_quiet(Around::Group, false, class) {
+        return Some(kinds);
+    }
+    let OpenKinds { rounds, square } = kinds;
+    match class {
+        TokenClass::CloseSquare if square => Some(OpenKinds {
+            rounds,
+            square: false,
+        }),
+        TokenClass::OpenRound if !square => Some(OpenKinds {
+            rounds: rounds + 1,
+            square,
+        }),
+        TokenClass::CloseRound if !square => Some(OpenKinds {
+            rounds: rounds - 1,
+            square,
+        }),
+        TokenClass::OpenSquare if !square => Some(OpenKinds {
+            rounds,
+            square: true,
+        }),
+        _ => None,
+    }
+}
+
+/// How many of these tokens stand up to the bracket that closes the `(` or `[` before them, if it is among so many and
+/// nothing but quiet tokens and groups stands before it.
+#[inline(never)]
+pub(crate) fn group_len(opener: TokenClass, classes: &[TokenClass], most: usize) -> Option<usize>
+    requires opens { opens_group opener ≡ true }
+    requires most { most ≤ length classes.now }
+    requires few { most < 2 ^ 32 }
+    ensures within { IfSome result (λ len. len ≤ most) }
+    ensures some { IfSome result (λ len. 0 < len) }
+    ensures closes { IfSome result (λ len. ClosesGroup (opener ∷ []) (take len classes.now)) }
+{
+    let mut kinds = OpenKinds {
+        rounds: usize::from(opener.is_open_round()),
+        square: !opener.is_open_round(),
+    };
+    let mut count = 0;
+    while count < most {
+        let next = count + quiet_len(&classes[count..]);
+        if next >= most {
+            return None;
+        }
+        kinds = open_behind(kinds, classes[next])?;
+        count = next + 1;
+        if kinds.rounds == 0 && !kinds.square {
+            return Some(count);
+        }
+    }
+    None
+}
