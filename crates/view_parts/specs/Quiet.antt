@@ -64,6 +64,12 @@ abbrev pub ClosesGroup : List TokenClass → List TokenClass → Type 0
 ClosesGroup kinds [] = kinds ≡ []
 ClosesGroup kinds (class ∷ classes) = (stands_in kinds class ≡ true) × ClosesGroup (kinds_behind kinds class) classes
 
+-- `[` or `]`
+abbrev pub is_square : TokenClass → Bool
+is_square OpenSquare = true
+is_square CloseSquare = true
+is_square _ = false
+
 -- the kinds of the brackets that are open
 abbrev pub kinds_in : OpenKinds → List TokenClass
 kinds_in kinds = if kinds.square then OpenSquare ∷ replicate kinds.rounds OpenRound else replicate kinds.rounds OpenRound

@@ -1,11 +1,12 @@
 //! Groups in round and square brackets that are passed at once.
 
-ghost use Rattle.std.specs.Prelude.{◌≡◌, ◌<◌, ◌≤◌, ◌+◌, ◌^◌, ◌∷◌, [], ℕ, false, true, get_or, length, take, IfSome};
+ghost use Rattle.std.specs.Prelude.{◌≡◌, ◌||◌, ◌<◌, ◌≤◌, ◌+◌, ◌^◌, ◌∷◌, [], ℕ, false, true, get_or, length, take, IfSome};
 ghost use Rattle.std.specs.Prelude.{if◌then◌else◌, replicate};
 ghost use Rattle.token_classes.specs.declared.class.TokenClass.{TokenClass};
 ghost use Rattle.part_walk.specs.declared.walk.Around.TheVariants.{Group};
 ghost use Rattle.part_walk.specs.Steps.{opens_group};
-ghost use Rattle.view_parts.specs.Quiet.{ClosesGroup, is_quiet, kinds_behind, kinds_in, stands_in};
+ghost use Rattle.token_classes.specs.Classes.{is_close_round, is_open_round};
+ghost use Rattle.view_parts.specs.Quiet.{ClosesGroup, is_quiet, is_square, kinds_behind, kinds_in, stands_in};
 
 use crate::ends::is_quiet;
 use crate::lanes::{LANES, quiet_in_group};
@@ -31,6 +32,22 @@ fn quiet_len(classes: &[TokenClass]) -> usize
     }
 }
 
+/// Whether a token is a `(` or `)`.
+#[inline(always)]
+fn is_round(class: TokenClass) -> bool
+    ensures { result ≡ (is_open_round class || is_close_round class) }
+{
+    class.is_open_round() || class.is_close_round()
+}
+
+/// Whether a token is a `[` or `]`.
+#[inline(always)]
+fn is_square(class: TokenClass) -> bool
+    ensures { result ≡ is_square class }
+{
+    matches!(class, TokenClass::OpenSquare | TokenClass::CloseSquare)
+}
+
 /// The brackets that are open behind a token, where these are before it. None is told where a bracket stands in a `[`.
 #[inline(always)]
 fn open_behind(kinds: OpenKinds, class: TokenClass) -> Option<OpenKinds>
@@ -44,25 +61,22 @@ fn open_behind(kinds: OpenKinds, class: TokenClass) -> Option<OpenKinds>
         return Some(kinds);
     }
     let OpenKinds { rounds, square } = kinds;
-    match class {
-        TokenClass::CloseSquare if square => Some(OpenKinds {
-            rounds,
-            square: false,
-        }),
-        TokenClass::OpenRound if !square => Some(OpenKinds {
-            rounds: rounds + 1,
-            square,
-        }),
-        TokenClass::CloseRound if !square => Some(OpenKinds {
-            rounds: rounds - 1,
-            square,
-        }),
-        TokenClass::OpenSquare if !square => Some(OpenKinds {
-            rounds,
-            square: true,
-        }),
-        _ => None,
+    if is_round(class) && !square {
+        let rounds = if class.is_open_round() {
+            rounds + 1
+        } else {
+            rounds - 1
+        };
+        return Some(OpenKinds { rounds, square });
     }
+    let opens = matches!(class, TokenClass::OpenSquare);
+    if is_square(class) && opens != square {
+        return Some(OpenKinds {
+            rounds,
+            square: opens,
+        });
+    }
+    None
 }
 
 /// How many of these tokens stand up to the bracket that closes the `(` or `[` before them, if it is among so many and
