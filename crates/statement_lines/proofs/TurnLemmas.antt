@@ -65,14 +65,6 @@ stays_turn braces tokens out0 out1 line o os start s2 at f (Goes g) s lt e q sta
 stays_turn braces tokens out0 out1 line o os start s2 at f (Waits h) s lt e q stay leaves l eo = absurd leaves
 stays_turn braces tokens out0 out1 line o os start s2 at f (Opens w b) s lt e q stay leaves l eo = absurd leaves
 
--- which are put back
-pub stays_pushed : (braces : Braces) (tokens : List CodeToken) (out0 out1 : List Line) (line : Line) (o : Open) (stack0 stack1 stack2 : List Open) (start s2 : Start) (at : ℕ) (f : Form)
-    → Stands braces tokens out0 (o ∷ reverse stack0) start at → at < o.end → form_of braces tokens o start at ≡ f → StaysIn at o f f.next → LeavesOpen o f.next s2
-    → line ≡ line_of o start at f → out1 ≡ out0 ++ line ∷ [] → stack1 ≡ stack0 → stack2 ≡ stack1 ++ o ∷ [] → Stands braces tokens out1 (reverse stack2) s2 f.end
-stays_pushed braces tokens out0 out1 line o stack0 stack1 stack2 start s2 at f s lt e stay leaves l eo same es =
-    let back : reverse stack2 ≡ o ∷ reverse stack0 = reverse_snoc stack0 stack2 o (es ∙ ap (λ x. x ++ o ∷ []) same) in
-    put braces tokens out1 out1 (o ∷ reverse stack0) (reverse stack2) s2 f.end refl (sym back) (stays_turn braces tokens out0 out1 line o (reverse stack0) start s2 at f f.next s lt e refl stay leaves l eo)
-
 -- as a simple line does
 pub simple_turn : (braces : Braces) (tokens : List CodeToken) (out0 out1 : List Line) (line : Line) (o : Open) (os : List Open) (start : Start) (at end : ℕ) (f : Form)
     → Stands braces tokens out0 (o ∷ os) start at → at < o.end → form_of braces tokens o start at ≡ record { kind = Simple; level = o.level; end = end; next = Ends }
@@ -201,13 +193,6 @@ pub turned : {E : Type 0} (r : Result Place E) (whole end from at new first old 
     → IfOk r (λ p. 2 * (whole - p.at) + new < 2 * (whole - from) + first + 1)
 turned (Ok p) whole end from at new first old on same lt within h = let a = h.0 in let b = h.1 in omega arith
 turned (Err e) whole end from at new first old on same lt within h = tt
-
-pub pushed_up : (whole end from at to : ℕ) (stack0 stack1 stack2 : List Open) (o : Open) → from ≤ at → stack0 ≡ stack1 → at < end → end ≤ whole → at < to
-    → stack2 ≡ stack0 ++ o ∷ [] → 2 * (whole - to) + length stack2 < 2 * (whole - from) + length stack1 + 1
-pushed_up whole end from at to stack0 stack1 stack2 o on same lt within up es =
-    let more : length stack2 ≡ length stack0 + 1 = ap length es ∙ length-append stack0 (o ∷ []) in
-    let kept = ap length same in
-    omega (arith, on, lt, within, up, kept, more)
 
 -- ## The start
 

@@ -344,8 +344,8 @@ fn start_behind(opened: Open, formed: Form) -> Option<Start>
     }
 }
 
-/// Simple lines, and the one behind them or the end of the innermost list. What only other lines need isn't made
-/// ready for these.
+/// Lines of the innermost list, up to one behind which another list is the innermost, or up to the end of the list.
+/// What only other lines need isn't made ready for simple ones.
 #[inline(always)]
 fn turn(
     braces: &Braces,
@@ -373,11 +373,11 @@ fn turn(
                 return take_line(braces, tokens, out, stack, opened, place, formed);
             };
             push_line(out, line_of(opened, place.start, place.at, formed))?;
-            push_open(stack, opened)?;
-            return Ok(Place {
+            place = Place {
                 start,
                 at: formed.end,
-            });
+            };
+            continue;
         };
         let form = line_alone(LineKind::Simple, opened.level, end);
         push_line(out, line_of(opened, place.start, place.at, form))?;

@@ -1,6 +1,6 @@
 use Rattle.std.proofs.Common.{◌<◌, ◌≤◌, length, refl, arith, ap, sym}
 use Rattle.statement_lines.specs.declared.form.Form.{Form}
-use Rattle.statement_lines.proofs.TurnLemmas.{ends_low, pushed_up, simple_turn, stays_pushed, stays_up, top_within}
+use Rattle.statement_lines.proofs.TurnLemmas.{ends_low, simple_turn, stays_turn, stays_up, top_within}
 use Rattle.statement_lines.proofs.TurnLemmas.{turned}
 use Rattle.statement_lines.proofs.tree.turn.Goals as goal
 
@@ -65,16 +65,17 @@ line_of-requires-clause-ends c =
     let low : f.end ≤ c.args.opened.end = ends_low c.loop-place.place.at c.args.opened f f.next refl c.form_of-formed.ensures.stays in
     omega (arith, within, low, c.requires.small)
 
-pub returns-in_default-clause-stands : goal.returns-in_default-clause-stands
-returns-in_default-clause-stands c =
-    stays_pushed _ _ _ _ _ _ _ _ _ _ _ _ c.form_of-formed.result c.loop-place.invariant.stands c.loop-place-test.true (sym c.form_of-formed.ensures.same) c.form_of-formed.ensures.stays
-    c.in-Some-start_behind.ensures c.line_of.ensures c.in_ok-push_line.ensures.items refl c.in_ok-push_open.ensures.items
-
-pub returns-in_default-clause-up : goal.returns-in_default-clause-up
-returns-in_default-clause-up c =
+pub loop-place-preserved-in_default : goal.loop-place-preserved-in_default
+loop-place-preserved-in_default c =
     let f = c.form_of-formed.result in
     let up : c.loop-place.place.at < f.end = stays_up c.loop-place.place.at c.args.opened f f.next c.in-Some-start_behind.start refl c.form_of-formed.ensures.stays c.in-Some-start_behind.ensures in
-    pushed_up _ _ _ _ _ _ _ _ _ c.loop-place.invariant.up c.loop-place.invariant.same c.loop-place-test.true (top_within _ _ _ _ _ _ _ c.loop-place.invariant.stands) up c.in_ok-push_open.ensures.items
+    record {
+      stands =
+          stays_turn _ _ _ _ _ _ _ _ _ _ f f.next c.loop-place.invariant.stands c.loop-place-test.true (sym c.form_of-formed.ensures.same) refl c.form_of-formed.ensures.stays c.in-Some-start_behind.ensures c.line_of.ensures
+          c.in_ok-push_line.ensures.items;
+      same = c.loop-place.invariant.same;
+      up = omega (arith, c.loop-place.invariant.up, up);
+    }
 
 pub returns-in_default-start_behind-clause-stands : goal.returns-in_default-start_behind-clause-stands
 returns-in_default-start_behind-clause-stands c = c.take_line.ensures.stands
