@@ -1,8 +1,8 @@
 //! The way along the items of a part.
 
-ghost use Rattle.std.specs.Prelude.{◌≡◌, ◌<◌, ◌&&◌, ◌||◌, false, not, length};
+ghost use Rattle.std.specs.Prelude.{◌≡◌, ◌<◌, ◌&&◌, ◌||◌, false, not, length, if◌then◌else◌, Some, None};
 ghost use Rattle.token_arena.specs.Gaps.{Contents, item_began};
-ghost use Rattle.token_classes.specs.Classes.{is_else};
+ghost use Rattle.token_classes.specs.Classes.{is_else, is_open_brace, is_open_round, is_semicolon};
 ghost use Rattle.token_classes.specs.declared.class.TokenClass.TheVariants.{OpenBrace};
 ghost use Rattle.part_walk.specs.Places.{place_in};
 ghost use Rattle.part_walk.specs.Reading.{GoesOn};
@@ -371,6 +371,24 @@ impl Headed {
     }
 }
 
+/// The classes of tokens that change what is known of a body's statement by their class, a bit for each.
+const CHANGING: u64 = 1 << (TokenClass::OpenBrace as u64)
+    | 1 << (TokenClass::OpenRound as u64)
+    | 1 << (TokenClass::Semicolon as u64)
+    | 1 << (TokenClass::Case as u64)
+    | 1 << (TokenClass::Default as u64);
+
+/// Whether a token may change more of what is known of a statement than which token was the last.
+#[inline(always)]
+fn changes_more(class: TokenClass) -> bool
+    ensures brace { result ≡ false → is_open_brace class ≡ false }
+    ensures round { result ≡ false → is_open_round class ≡ false }
+    ensures semicolon { result ≡ false → is_semicolon class ≡ false }
+    ensures label { result ≡ false → is_label class ≡ false }
+{
+    (CHANGING >> class as u64) % 2 == 1
+}
+
 impl LastToken {
     /// Whether a statement of a body ends with it.
     fn is_end(&self) -> bool
@@ -482,15 +500,15 @@ impl LastToken {
         }
     }
 
-    /// Behind the next token of a body, which is no comment, but for what it is to the head of a structure. So many
-    /// items of the part were read before it.
+    /// What the next token of a body changes by its class but for what it is to the head of a structure.
     #[inline(always)]
-    fn pass(&mut self, place: u32, id: TokenId, class: TokenClass)
-        ensures { self.new ≡ record (next_last place self.old id.0 class) { structure = self.old.structure } }
+    fn pass_changing(&mut self, id: TokenId, class: TokenClass)
+        ensures { self.new ≡ record self.old {
+          headed = if is_open_round class then headed_by self.old.class else self.old.headed;
+          block = if is_open_brace class then (if begins_block self.old then Some id.0 else None) else self.old.block;
+          held = next_held self.old.held class;
+        } }
     {
-        if place >= LEAST_IN_ROW && self.is_begin() {
-            self.commented = false;
-        }
         if class.is_open_brace() {
             self.block = if self.begins_block() {
                 Some(id.0)
@@ -504,6 +522,20 @@ impl LastToken {
             self.headed
         };
         self.held = self.next_held(class);
+    }
+
+    /// Behind the next token of a body, which is no comment, but for what it is to the head of a structure. So many
+    /// items of the part were read before it.
+    #[inline(always)]
+    fn pass(&mut self, place: u32, id: TokenId, class: TokenClass)
+        ensures { self.new ≡ record (next_last place self.old id.0 class) { structure = self.old.structure } }
+    {
+        if place >= LEAST_IN_ROW && self.is_begin() {
+            self.commented = false;
+        }
+        if changes_more(class) {
+            self.pass_changing(id, class);
+        }
         self.class = class;
         self.id = id.0;
         self.apart = false;

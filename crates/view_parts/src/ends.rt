@@ -19,7 +19,7 @@ ghost use Rattle.part_walk.specs.Steps.{ends_before_brace, opens_group};
 
 use crate::groups::group_len;
 use crate::known::PartsEnd;
-use crate::lanes::{LANES, flat_count, quiet_in_body, quiet_in_group};
+use crate::lanes::{LANES, flat_count, quiet_behind_label, quiet_in_body, quiet_in_group};
 use crate::row::{Row, item_at};
 use bumpalo::Bump;
 use line_tokens::{NoMemory, TokenId};
@@ -133,15 +133,20 @@ fn few_quiet(around: Around, held: bool, classes: &[TokenClass]) -> usize
     count
 }
 
-/// How many of sixteen tokens are quiet at their beginning, by what they stand in, where no label holds.
+/// How many quiet tokens sixteen begin with, by what they stand in and whether a label holds the part's end.
 #[inline(always)]
-fn quiet_of_sixteen(around: Around, classes: &[TokenClass; LANES]) -> usize
-    ensures { result ≡ prefix_len (is_quiet around false) classes.now }
+fn quiet_of_sixteen(around: Around, held: bool, classes: &[TokenClass; LANES]) -> usize
+    ensures { result ≡ prefix_len (is_quiet around held) classes.now }
 {
     match around {
-        Around::Outside => quiet_in_body(classes),
-        Around::Body => quiet_in_body(classes),
         Around::Group => quiet_in_group(classes),
+        Around::Outside | Around::Body => {
+            if held {
+                quiet_behind_label(classes)
+            } else {
+                quiet_in_body(classes)
+            }
+        }
     }
 }
 
@@ -152,15 +157,10 @@ fn quiet_count(around: Around, held: bool, classes: &[TokenClass], most: usize) 
     ensures within { result ≤ most }
     ensures quiet { (k : ℕ) → (d : TokenClass) → k < result → is_quiet around held (get_or classes.now k d) ≡ true }
 {
-    if !held {
-        if let Some((sixteen, _)) = classes.split_first_chunk::<LANES>() {
-            let count = quiet_of_sixteen(around, sixteen);
-            if count < LANES || most <= LANES {
-                return count.min(most);
-            }
-        }
+    match classes.split_first_chunk::<LANES>() {
+        Some((sixteen, _)) => quiet_of_sixteen(around, held, sixteen).min(most),
+        None => few_quiet(around, held, &classes[..most]),
     }
-    few_quiet(around, held, &classes[..most])
 }
 
 /// How many quiet tokens stand in a row from a place of a part on: in a body up to where parts may end anywhere.
