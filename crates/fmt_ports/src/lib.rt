@@ -19,7 +19,7 @@ mod text;
 mod whole;
 mod write_back;
 
-ghost use Rattle.std.specs.Prelude.{◌<◌, ℕ, List, Option, length, IfOk};
+ghost use Rattle.std.specs.Prelude.{◌≤◌, ◌<◌, ℕ, List, Option, length, take, IfOk};
 ghost use Rattle.std.specs.Io.{ReadsAtMost, WritesAtMost};
 ghost use Rattle.std.specs.Io.KnownBytes.{ReadConsumes, WriteAppends};
 ghost use Rattle.fmt_ports.specs.Causes.{Counts};
@@ -31,7 +31,7 @@ pub use real_files::RealFiles;
 pub use streams::{PIECE, Stream, bytes_of, is_same, write_in_pieces};
 pub use text::TextSink;
 use thiserror::Error;
-pub use whole::{BUFFER, InFault, read_all, write_all};
+pub use whole::{BUFFER, InFault, read_all, write_all, write_front};
 
 /// A call on the outside failed.
 #[derive(Clone, Copy, Debug, PartialEq, Eq, Error)]
@@ -69,4 +69,17 @@ pub trait Sink {
         ensures some { 0 < length bytes.now → IfOk result (λ n. 0 < n) }
         ensures bytes { WriteAppends (taken self.old) (taken self.new) result bytes.now }
         ensures counts { Counts (faults self.old) (faults self.new) result };
+
+    /// The same for the first of some bytes, so many of them. A sink that copies bytes may copy more than it takes, which
+    /// is quicker where it is known how many it copies.
+    #[inline(always)]
+    fn write_front(&mut self, bytes: &[u8], count: usize) -> Result<usize, Failed>
+        requires { count ≤ length bytes.now }
+        ensures bound { WritesAtMost result (take count bytes.now) }
+        ensures some { 0 < count → IfOk result (λ n. 0 < n) }
+        ensures bytes { WriteAppends (taken self.old) (taken self.new) result (take count bytes.now) }
+        ensures counts { Counts (faults self.old) (faults self.new) result }
+    {
+        self.write(&bytes[..count])
+    }
 }

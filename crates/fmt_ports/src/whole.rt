@@ -101,3 +101,16 @@ pub fn write_all<K: Sink>(sink: &mut K, bytes: &[u8]) -> Result<(), Failed>
     let (_, result) = write_most(sink, bytes);
     result
 }
+
+/// Appends the first of some bytes, so many of them. After `Failed` a front part of these was appended. It takes no
+/// memory.
+#[inline(always)]
+pub fn write_front<K: Sink>(sink: &mut K, bytes: &[u8], count: usize) -> Result<(), Failed>
+    requires { count ≤ length bytes.now }
+    ensures ok { IfOk result (λ _. Appends (K.taken sink.old) (K.taken sink.new) (take count bytes.now)) }
+    ensures part { AppendsPart (K.taken sink.old) (K.taken sink.new) (take count bytes.now) }
+    ensures counts { Counts (K.faults sink.old) (K.faults sink.new) result }
+{
+    let taken = sink.write_front(bytes, count)?;
+    write_all(sink, &bytes[taken..count])
+}

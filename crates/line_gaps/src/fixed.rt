@@ -20,12 +20,11 @@ fn are_eight_open(plan: &Plan<'_>, tokens: &[LineTok], first: usize) -> bool
     ensures { IsTrue result → (i : ℕ) (d : LineTok) → first ≤ i → i < first + 8 →
         slot_of plan.now (get_or tokens.now i d).id.0 ≡ None }
 {
+    let mut decided = false;
     for at in first..first + 8 {
-        if plan.is_decided(token_at(tokens, at).id.0) {
-            return false;
-        }
+        decided |= plan.is_decided(token_at(tokens, at).id.0);
     }
-    true
+    !decided
 }
 
 /// A place up to which the gaps before all tokens are open. They are looked at by eights, since that many take fewer

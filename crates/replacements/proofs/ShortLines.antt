@@ -1,12 +1,13 @@
 -- Line ends and blanks in one piece.
-use Rattle.std.proofs.Common.{◌≡◌, ◌∙◌, ℕ, ◌+◌, ◌-◌, ◌≤◌, suc, Bool, false, List, ◌∷◌, ◌++◌, ap, arith, sym, take, replicate}
+use Rattle.std.proofs.Common.{◌≡◌, ◌∙◌, ℕ, ◌+◌, ◌≤◌, suc, Bool, false, List, ◌∷◌, ◌++◌, ap, arith, sym, take, replicate}
+use Rattle.std.proofs.lemmas.List.{take-replicate}
 use Rattle.replacements.specs.GapText.{blanks, line_ends}
 use Rattle.replacements.proofs.Blanks.{blanks_front}
 
-pub one_front : (n : ℕ) → n ≤ 64 → take (2 + n - 1) (10 ∷ replicate 64 32) ≡ 10 ∷ blanks n
+pub one_front : (n : ℕ) → n ≤ 64 → take (1 + n) (10 ∷ replicate 65 32) ≡ 10 ∷ blanks n
 one_front n within =
-    let long : 2 + n - 1 ≡ suc n = omega arith in
-    rw long (ap (λ (z : List ℕ). 10 ∷ z) (blanks_front n within))
+    let long : 1 + n ≡ suc n = omega arith in
+    rw long (ap (λ (z : List ℕ). 10 ∷ z) (take-replicate n 65 32 (omega (arith, within))))
 
 pub two_front : (n : ℕ) → n ≤ 64 → take (2 + n) (10 ∷ 10 ∷ replicate 64 32) ≡ 10 ∷ 10 ∷ blanks n
 two_front n within =

@@ -6,6 +6,7 @@
 mod short;
 mod white;
 
+pub(crate) use short::{LinesPiece, lines_front};
 pub use short::short_lines;
 pub use white::write_gap;
 

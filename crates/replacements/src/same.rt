@@ -1,6 +1,6 @@
 //! Gaps that the input has as they are decided.
 
-ghost use Rattle.std.specs.Prelude.{◌≡◌, ◌<◌, ◌≤◌, Bool, true, length, IfSome, IsTrue};
+ghost use Rattle.std.specs.Prelude.{◌≡◌, ◌<◌, ◌≤◌, Bool, true, length, take, IfSome, IsTrue};
 ghost use Rattle.token_arena.specs.Gaps.{Stands};
 ghost use Rattle.replacements.specs.declared.gap_text.Decision.TheVariants.{Lines, Spaces};
 ghost use Rattle.style_table.specs.declared.style.Style.{Style};
@@ -14,7 +14,8 @@ use crate::guard::{guard_before, is_free};
 use crate::hash::begins_no_hash;
 use crate::plan::Plan;
 use crate::written::decision_at;
-use crate::{Decision, short_lines};
+use crate::Decision;
+use crate::gap_text::{LinesPiece, lines_front};
 use c_grammar::ItemKind;
 use style_table::Style;
 use token_arena::{Token, TokenArena};
@@ -130,10 +131,11 @@ pub(crate) fn lines_piece(
     place: u32,
     token: &Token<'_>,
     gap: LineGap,
-) -> Option<&'static [u8]>
+) -> Option<LinesPiece>
     requires { place ≤ length arena.now.tokens }
-    ensures { IfSome result (λ piece. IsWritten style.now crlf arena.now place (Lines gap.count gap.column gap.level)
-        (told_by token.now) piece.now) }
+    ensures within { IfSome result (λ piece. piece.len ≤ length piece.bytes.now) }
+    ensures is { IfSome result (λ piece. IsWritten style.now crlf arena.now place (Lines gap.count gap.column gap.level)
+        (told_by token.now) (take piece.len piece.bytes.now)) }
 {
     if place == 0 || !token.gap.began {
         return None;
@@ -141,7 +143,7 @@ pub(crate) fn lines_piece(
     if !is_free(guard_before(arena, place)) {
         return None;
     }
-    let piece = short_lines(style, crlf, gap.count, gap.column)?;
+    let piece = lines_front(style, crlf, gap.count, gap.column)?;
     Some(piece)
 }
 

@@ -1,6 +1,6 @@
 //! The text of a plan.
 
-ghost use Rattle.std.specs.Prelude.{◌≡◌, ◌==◌, ◌&&◌, ◌<◌, ◌≤◌, ◌+◌, ◌++◌, Bool, List, ℕ, length, drop, OnOk, false};
+ghost use Rattle.std.specs.Prelude.{◌≡◌, ◌==◌, ◌&&◌, ◌<◌, ◌≤◌, ◌+◌, ◌++◌, Bool, List, ℕ, length, drop, take, OnOk, false};
 ghost use Rattle.std.specs.Io.KnownBytes.{Appends};
 ghost use Rattle.c_chars.specs.Characters.{mark_len};
 ghost use Rattle.token_arena.specs.declared.directives.Section.{Section};
@@ -16,13 +16,14 @@ ghost use Rattle.replacements.specs.declared.guard.Guard.TheVariants.{Free};
 ghost use Rattle.style_table.specs.declared.style.Style.{Style};
 
 use crate::entry::LineGap;
+use crate::gap_text::LinesPiece;
 use crate::guard::{Guard, guard_before, guard_for, guard_text, guarded_ends, is_free};
 use crate::hash::{HashRun, hash_comes};
 use crate::plan::Plan;
 use crate::same::{are_equal, between, comes_no_hash, has_same_blanks, is_same, lines_piece};
 use crate::stance::{Stance, stance_at};
 use crate::{Decision, write_gap};
-use fmt_ports::{Failed, Sink, write_all};
+use fmt_ports::{Failed, Sink, write_all, write_front};
 use line_tokens::TokenId;
 use style_table::Style;
 use token_arena::{Section, Token, TokenArena};
@@ -183,6 +184,22 @@ fn write_laid<K: Sink>(
     write_guarded(style, crlf, guard_before(arena, place), decision, b"", sink)
 }
 
+/// Writes the bytes of a text from one offset up to another. Most are few, and these are copied with those behind them,
+/// so that it is known how many are copied.
+#[inline(always)]
+fn write_between<K: Sink>(text: &[u8], from: usize, to: usize, sink: &mut K) -> Result<(), Failed>
+    requires order { from ≤ to }
+    requires within { to ≤ length text.now }
+    ensures ok { OnOk result (Appends (K.taken sink.old) (K.taken sink.new) (bytes_between text.now from to)) }
+    ensures part { AppendsPart (K.taken sink.old) (K.taken sink.new) (bytes_between text.now from to) }
+    ensures counts { Counts (K.faults sink.old) (K.faults sink.new) result }
+{
+    if to - from <= 64 && text.len() - from >= 64 {
+        return write_front(sink, between(text, from, from + 64), to - from);
+    }
+    write_all(sink, between(text, from, to))
+}
+
 /// Writes what is held and what is decided before an item whose gap doesn't stay, and holds nothing then.
 #[inline(always)]
 fn write_anew<K: Sink>(
@@ -220,7 +237,7 @@ fn write_anew<K: Sink>(
         (stance_in sections.now place) decision (told_by token.now) (drop (place + 1) arena.now.tokens)) }
     ensures counts { Counts (K.faults sink.old) (K.faults sink.new) result }
 {
-    write_all(sink, between(arena.text(), walk.held, walk.at))?;
+    write_between(arena.text(), walk.held, walk.at, sink)?;
     write_laid(
         style, crlf, arena, sections, walk, place, token, decision, sink,
     )?;
@@ -236,24 +253,26 @@ fn write_piece<K: Sink>(
     at: usize,
     held: &mut usize,
     start: usize,
-    piece: &[u8],
+    piece: LinesPiece,
     sink: &mut K,
 ) -> Result<(), Failed>
     requires held { held.old ≤ at }
     requires order { at ≤ start }
     requires within { start ≤ length text.now }
+    requires piece { piece.len ≤ length piece.bytes.now }
     ensures held { held.new ≤ start }
     ensures ok { OnOk result ((written : List ℕ) × Appends (K.taken sink.old) (K.taken sink.new) written
-        × (bytes_between text.now held.old at ++ piece.now ≡ written ++ bytes_between text.now held.new start)) }
+        × (bytes_between text.now held.old at ++ take piece.len piece.bytes.now
+        ≡ written ++ bytes_between text.now held.new start)) }
     ensures part { AppendsPart (K.taken sink.old) (K.taken sink.new)
-        (bytes_between text.now held.old at ++ piece.now) }
+        (bytes_between text.now held.old at ++ take piece.len piece.bytes.now) }
     ensures counts { Counts (K.faults sink.old) (K.faults sink.new) result }
 {
-    if are_equal(between(text, at, start), piece) {
+    if are_equal(between(text, at, start), &piece.bytes[..piece.len]) {
         return Ok(());
     }
-    write_all(sink, between(text, *held, at))?;
-    write_all(sink, piece)?;
+    write_between(text, *held, at, sink)?;
+    write_front(sink, piece.bytes, piece.len)?;
     *held = start;
     Ok(())
 }

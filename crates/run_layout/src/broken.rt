@@ -10,6 +10,7 @@ ghost use Rattle.line_walk.specs.Starts.{IsAdmissible};
 ghost use Rattle.layout_tables.specs.Indents.{start_column};
 ghost use Rattle.layout_tables.specs.Told.{TellBlanks};
 ghost use Rattle.replacements.specs.Decisions.{decided, decided_all};
+ghost use Rattle.replacements.specs.declared.gap_text.Decision.TheVariants.{Lines};
 ghost use Rattle.line_tokens.specs.declared.LineTok.{LineTok};
 ghost use Rattle.run_layout.specs.Broken.{broken_made, decision_by, empty_inside, inside_made, number, waits};
 ghost use Rattle.run_layout.specs.Ready.{IsOpenLine, IsReady};
@@ -35,55 +36,48 @@ fn empty_inside(style: &Style, line: &ULine, token: &LineTok) -> u32
     }
 }
 
-/// What stands before a token inside a line, which starts at a column, where its gap breaks or stays behind so many
-/// blanks.
-fn decision_by(
-    style: &Style,
-    line: &ULine,
-    right: &LineTok,
-    spaces: u8,
-    brk: bool,
-    start: u32,
-) -> Decision
+/// What stands before a token that begins a further row of a line at a column.
+#[inline(always)]
+fn further_row(style: &Style, line: &ULine, token: &LineTok, start: u32) -> Decision
     requires range { IsInRange style.now }
-    ensures { (left : LineTok) → spaces ≡ spaces_before style.now left right.now →
-        result ≡ decision_by style.now line.now left right.now brk start }
+    ensures { result ≡ Lines (1 + empty_inside style.now line.now token.now) start line.now.level }
 {
-    if brk {
-        Decision::Lines {
-            count: 1 + empty_inside(style, line, right),
-            column: start,
-            level: line.level,
-        }
-    } else {
-        Decision::Spaces(u32::from(spaces))
+    Decision::Lines {
+        count: 1 + empty_inside(style, line, token),
+        column: start,
+        level: line.level,
     }
 }
 
-/// A trailing comment that stays on its row waits until the rows of its view are known.
-fn waits(token: &LineTok, brk: bool) -> bool
-    ensures { result ≡ waits token.now brk }
-{
-    !brk && token.role.is_trailing()
-}
-
-/// Decides the gap before a token, if it isn't decided and doesn't wait.
+/// Decides the gap before a token inside a line, which starts at a column, if it isn't decided: it breaks, or stays
+/// behind so many blanks. A trailing comment that stays on its row waits until the rows of its view are known.
+#[inline(always)]
 fn decide_open(
-    plan: &mut Plan<'_>,
+    style: &Style,
+    line: &ULine,
     fixed: Option<Fixed>,
     token: &LineTok,
+    spaces: u8,
     brk: bool,
-    decision: Decision,
     start: u32,
+    plan: &mut Plan<'_>,
 )
-    requires { token.now.id.0 < length plan.old }
-    ensures plan { plan.new
+    requires range { IsInRange style.now }
+    requires within { token.now.id.0 < length plan.old }
+    ensures plan { (left : LineTok) → spaces ≡ spaces_before style.now left token.now →
+        plan.new
         ≡ (if is_some_decision fixed || waits token.now brk then plan.old
-        else decided plan.old token.now.id.0 (record { decision = decision; end = start })) }
+        else decided plan.old token.now.id.0
+        (record { decision = decision_by style.now line.now left token.now brk start; end = start })) }
     ensures len { length plan.new ≡ length plan.old }
 {
-    if fixed.is_none() && !waits(token, brk) {
-        let _ = plan.decide(token.id.0, decision, start);
+    if fixed.is_some() {
+        return;
+    }
+    if brk {
+        let _ = plan.decide(token.id.0, further_row(style, line, token, start), start);
+    } else if !token.role.is_trailing() {
+        let _ = plan.decide(token.id.0, Decision::Spaces(u32::from(spaces)), start);
     }
 }
 
@@ -116,8 +110,9 @@ fn write_breaks(
         let spaces = blanks.before(style, left, right);
         let brk = breaks[at];
         let start = lay_next(style, tokens, column, fixed, state, spaces, brk)?;
-        let decision = decision_by(style, line, right, spaces, brk, start);
-        decide_open(plan, fixed[at + 1], right, brk, decision, start);
+        decide_open(
+            style, line, fixed[at + 1], right, spaces, brk, start, plan,
+        );
     }
     Ok(())
 }

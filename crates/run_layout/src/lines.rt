@@ -280,7 +280,7 @@ fn is_line_decided(
 
 /// Lays out a line that isn't open or isn't far from the limit: decides its open gaps, and tells what came of it.
 /// `segment` is the number of the view's segment that was looked into last.
-#[inline(always)]
+#[inline(never)]
 fn lay_out_other_line(
     layout: &ViewLayout<'_>,
     line: &ULine,

@@ -1,6 +1,6 @@
 //! Small writes that are collected, and handed on in pieces.
 
-ghost use Rattle.std.specs.Prelude.{◌≡◌, ◌<◌, ℕ, List, [], Option, None, IfOk, OnOk, length};
+ghost use Rattle.std.specs.Prelude.{◌≡◌, ◌≤◌, ◌<◌, ℕ, List, [], Option, None, IfOk, OnOk, length, take};
 ghost use Rattle.std.specs.Io.{WritesAtMost};
 ghost use Rattle.std.specs.Io.KnownBytes.{Appends, Keeps, WriteAppends};
 ghost use Rattle.fmt_ports.specs.Causes.{AppendsPart, Counts};
@@ -74,6 +74,24 @@ impl<'k, K: Sink> Pieces<'k, K> {
         }
         self.add_behind(bytes)
     }
+
+    /// Takes the first of some bytes, so many of them.
+    #[inline(always)]
+    fn add_front(&mut self, bytes: &[u8], count: usize) -> Result<usize, Failed>
+        requires { count ≤ length bytes.now }
+        ensures same_sink { self.new.out.ghost_name ≡ self.old.out.ghost_name }
+        ensures bound { WritesAtMost result (take count bytes.now) }
+        ensures some { 0 < count → IfOk result (λ n. 0 < n) }
+        ensures bytes { WriteAppends (taken_by K.taken self.old) (taken_by K.taken self.new) result
+            (take count bytes.now) }
+        ensures grows { Grows (K.taken self.old.out.now) (K.taken self.new.out.now) }
+        ensures counts { Counts (K.faults self.old.out.now) (K.faults self.new.out.now) result }
+    {
+        if self.room.try_add_front(bytes, count) {
+            return Ok(count);
+        }
+        self.add_behind(&bytes[..count])
+    }
 }
 
 /// Which sink stands behind [`Pieces`], and what it had taken at first. A call over any sink says nothing of that, so
@@ -123,6 +141,11 @@ impl<K: Sink, B: Behind> Sink for PieceSink<'_, K, B> {
     #[inline(always)]
     fn write(&mut self, bytes: &[u8]) -> Result<usize, Failed> {
         self.pieces.add(bytes)
+    }
+
+    #[inline(always)]
+    fn write_front(&mut self, bytes: &[u8], count: usize) -> Result<usize, Failed> {
+        self.pieces.add_front(bytes, count)
     }
 }
 

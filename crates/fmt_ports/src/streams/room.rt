@@ -1,6 +1,6 @@
 //! Room for bytes that are collected.
 
-ghost use Rattle.std.specs.Prelude.{◌≡◌, ◌≤◌, ℕ, List, [], ◌++◌, IsFalse, IsTrue, drop, length};
+ghost use Rattle.std.specs.Prelude.{◌≡◌, ◌≤◌, ℕ, List, [], ◌++◌, IsFalse, IsTrue, drop, length, take};
 
 use std::alloc::{AllocError, Global};
 use std::marker::Model;
@@ -53,6 +53,25 @@ impl Room {
             return false;
         }
         self.bytes.extend_from_slice(bytes).is_ok()
+    }
+
+    /// Takes the first of some bytes, so many of them, where all find room behind those that it holds, and none
+    /// otherwise. All are copied, which is quicker where it is known how many these are.
+    #[inline(always)]
+    pub(crate) fn try_add_front(&mut self, bytes: &[u8], count: usize) -> bool
+        requires { count ≤ length bytes.now }
+        ensures added { IsTrue result → self.new ≡ self.old ++ take count bytes.now }
+        ensures kept { IsFalse result → self.new ≡ self.old }
+    {
+        let len = self.bytes.len();
+        if bytes.len() > self.bytes.capacity() - len {
+            return false;
+        }
+        if self.bytes.extend_from_slice(bytes).is_err() {
+            return false;
+        }
+        self.bytes.truncate(len + count);
+        true
     }
 
     /// Gives up the first of the bytes.

@@ -6,8 +6,9 @@ ghost use Rattle.fmt_ports.specs.Causes.{AppendsPart, Counts};
 ghost use Rattle.replacements.specs.GapText.{blanks, gap_text, indentation, level_columns, line_end, line_ends};
 ghost use Rattle.replacements.specs.GapText.{tabs_to};
 
-use crate::{Decision, short_lines};
-use fmt_ports::{Failed, Sink, write_all};
+use crate::Decision;
+use crate::gap_text::lines_front;
+use fmt_ports::{Failed, Sink, write_all, write_front};
 use style_table::{Style, UseTab};
 
 const BLANKS: [u8; 64] = [b' '; 64];
@@ -31,8 +32,8 @@ fn some_tabs(count: u32) -> &'static [u8]
 }
 
 /// Writes so many blanks, in pieces of up to 64.
-#[inline(always)]
-fn write_blanks<K: Sink>(count: u32, sink: &mut K) -> Result<(), Failed>
+#[inline(never)]
+fn write_many_blanks<K: Sink>(count: u32, sink: &mut K) -> Result<(), Failed>
     ensures ok { OnOk result (Appends (K.taken sink.old) (K.taken sink.new) (blanks count)) }
     ensures part { AppendsPart (K.taken sink.old) (K.taken sink.new) (blanks count) }
     ensures counts { Counts (K.faults sink.old) (K.faults sink.new) result }
@@ -44,6 +45,19 @@ fn write_blanks<K: Sink>(count: u32, sink: &mut K) -> Result<(), Failed>
         left -= piece;
     }
     Ok(())
+}
+
+/// Writes so many blanks. Most are few.
+#[inline(always)]
+fn write_blanks<K: Sink>(count: u32, sink: &mut K) -> Result<(), Failed>
+    ensures ok { OnOk result (Appends (K.taken sink.old) (K.taken sink.new) (blanks count)) }
+    ensures part { AppendsPart (K.taken sink.old) (K.taken sink.new) (blanks count) }
+    ensures counts { Counts (K.faults sink.old) (K.faults sink.new) result }
+{
+    if count <= 64 {
+        return write_front(sink, &BLANKS, count as usize);
+    }
+    write_many_blanks(count, sink)
 }
 
 /// Writes so many tabs, in pieces of up to 64.
@@ -159,8 +173,8 @@ fn write_lines<K: Sink>(
         (line_ends crlf count ++ indentation style.now (level_columns style.now level column) column) }
     ensures counts { Counts (K.faults sink.old) (K.faults sink.new) result }
 {
-    if let Some(piece) = short_lines(style, crlf, count, column) {
-        return write_all(sink, piece);
+    if let Some(piece) = lines_front(style, crlf, count, column) {
+        return write_front(sink, piece.bytes, piece.len);
     }
     write_line_ends(crlf, count, sink)?;
     write_indentation(style, level_columns(style, level, column), column, sink)

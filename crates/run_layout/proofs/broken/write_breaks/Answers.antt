@@ -27,8 +27,8 @@ lay_next-requires-clause-leads c = write_goes _ c.args.line.now (map number c.ar
 pub lay_next-requires-clause-spaces : goal.lay_next-requires-clause-spaces
 lay_next-requires-clause-spaces c = blanks_there c.args.style.now c.args.tokens.now c.loop-at.state.index c.loop-at.at _ _ _ c.loop-at.invariant.written.index c.token_at-left.ensures c.token_at-right.ensures c.before-spaces.ensures.table
 
-pub decide_open-requires : goal.decide_open-requires
-decide_open-requires c =
+pub decide_open-requires-clause-within : goal.decide_open-requires-clause-within
+decide_open-requires-clause-within c =
     omega (arith, c.loop-at.invariant.len, token_within c.args.tokens.now (length c.args.plan.now) (c.loop-at.at + 1) c.token_at-right.result.now c.requires.within c.token_at-right.ensures)
 
 pub loop-at-preserved : goal.loop-at-preserved
@@ -41,8 +41,7 @@ loop-at-preserved c =
           c.token_at-left.result.now c.token_at-right.result.now (get_or c.args.fixed.now (at + 1) None) c.loop-at.invariant.written c.loop-at-test.true refl
           c.token_at-left.ensures c.token_at-right.ensures (decision_here l (at + 1) None (omega (arith, slice_get_within c.args.tokens.now (at + 1) c.token_at-right.result.now c.token_at-right.ensures, c.requires.line.even))) (number_of c.args.tokens.now (at + 1) c.token_at-right.result.now c.token_at-right.ensures)
           c.in_ok-start.ensures.start c.in_ok-start.ensures.next
-          (c.decide_open.ensures.plan ∙ ap (λ (d : Decision). if is_some_decision (get_or c.args.fixed.now (at + 1) None) || waits c.token_at-right.result.now (get_or c.args.breaks.now at false) then c.loop-at.plan else decided c.loop-at.plan c.token_at-right.result.now.id.0 (record { decision = d; end = c.in_ok-start.start }))
-          (c.decision_by-decision.ensures c.token_at-left.result.now c.before-spaces.ensures.table));
+          (c.decide_open.ensures.plan c.token_at-left.result.now c.before-spaces.ensures.table);
     }
 
 pub returns-clause-plan : goal.returns-clause-plan

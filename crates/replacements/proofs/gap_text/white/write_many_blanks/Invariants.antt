@@ -1,7 +1,7 @@
 use Rattle.std.proofs.Common.{◌≡◌, ◌-◌, ◌≤◌}
 use Rattle.std.specs.Io.KnownBytes.{Appends}
 use Rattle.replacements.specs.GapText.{blanks}
-use Rattle.replacements.proofs.gap_text.white.write_blanks.Given as goal
+use Rattle.replacements.proofs.gap_text.white.write_many_blanks.Given as goal
 
 abbrev pub invariant-loop-left : goal.invariant-loop-left
 invariant-loop-left g l = record {
