@@ -1,6 +1,6 @@
 -- Bytes of the input that are laid out as they are.
 use Rattle.std.proofs.Common.{◌≡◌, ◌∙◌, ℕ, zero, suc, ◌+◌, ◌-◌, ◌<◌, ◌≤◌, List, [], ◌∷◌, ◌++◌, length, take, drop, refl, sym, ap, subst, arith, append_assoc, Some, slice_get}
-use Rattle.std.proofs.lemmas.List.{drop-drop, take-take}
+use Rattle.std.proofs.lemmas.List.{drop-drop}
 use Rattle.std.proofs.lemmas.Option.{slice_get_within}
 use Rattle.std.proofs.Math.Seq.{take-add}
 use Rattle.token_arena.specs.Stored.{Stored}
@@ -23,12 +23,6 @@ between-append text a b c first second =
     let on : a + (b - a) ≡ b = omega (arith, first) in
     let rest : drop (b - a) (drop a text) ≡ drop b text = drop-drop (b - a) a text ∙ ap (λ n. drop n text) on in
     ap (λ (z : List ℕ). take (b - a) (drop a text) ++ take (c - b) z) (sym rest) ∙ (sym (take-add (b - a) (c - b) (drop a text)) ∙ ap (λ n. take n (drop a text)) whole)
-
--- the first of more bytes
-pub between_front : (text : List ℕ) (from to wide : ℕ) → to - from ≤ wide → take (to - from) (bytes_between text from (from + wide)) ≡ bytes_between text from to
-between_front text from to wide within =
-    let len : from + wide - from ≡ wide = omega arith in
-    rw len (take-take (to - from) wide (drop from text) within)
 
 -- no bytes
 pub between-none : (text : List ℕ) (a b : ℕ) → b ≤ a → bytes_between text a b ≡ []

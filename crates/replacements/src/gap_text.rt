@@ -6,8 +6,8 @@
 mod short;
 mod white;
 
-pub(crate) use short::{LinesPiece, lines_front};
 pub use short::short_lines;
+pub(crate) use short::{LinesPiece, lines_front};
 pub use white::write_gap;
 
 /// What was decided for a gap.

@@ -9,13 +9,13 @@ ghost use Rattle.replacements.specs.Stances.{IsAt};
 ghost use Rattle.replacements.specs.Same.{ComesNoHash, IsSame, IsWritten, blanks_told};
 ghost use Rattle.replacements.specs.Written.{bytes_between, decision_at, is_old};
 
+use crate::Decision;
 use crate::entry::LineGap;
+use crate::gap_text::{LinesPiece, lines_front};
 use crate::guard::{guard_before, is_free};
 use crate::hash::begins_no_hash;
 use crate::plan::Plan;
 use crate::written::decision_at;
-use crate::Decision;
-use crate::gap_text::{LinesPiece, lines_front};
 use c_grammar::ItemKind;
 use style_table::Style;
 use token_arena::{Token, TokenArena};

@@ -4,11 +4,11 @@ use Rattle.replacements.proofs.written.write_lines_before.Goals as goal
 
 pub returns-in-Some-clause-ok : goal.returns-in-Some-clause-ok
 returns-in-Some-clause-ok g c =
-    rw (c.in-Some.ensures c.args.walk.now.at (stance_in c.args.sections.now c.args.place) (drop (c.args.place + 1) c.args.arena.now.tokens)) (rw c.text.ensures at c.write_piece.ensures.ok)
+    rw (c.in-Some.ensures.is c.args.walk.now.at (stance_in c.args.sections.now c.args.place) (drop (c.args.place + 1) c.args.arena.now.tokens)) (rw c.text.ensures at c.write_piece.ensures.ok)
 
 pub returns-in-Some-clause-part : goal.returns-in-Some-clause-part
 returns-in-Some-clause-part g c =
-    rw (c.in-Some.ensures c.args.walk.now.at (stance_in c.args.sections.now c.args.place) (drop (c.args.place + 1) c.args.arena.now.tokens)) (rw c.text.ensures at c.write_piece.ensures.part)
+    rw (c.in-Some.ensures.is c.args.walk.now.at (stance_in c.args.sections.now c.args.place) (drop (c.args.place + 1) c.args.arena.now.tokens)) (rw c.text.ensures at c.write_piece.ensures.part)
 
 pub returns-clause-ok : goal.returns-clause-ok
 returns-clause-ok g c = c.write_anew.ensures.ok
