@@ -110,9 +110,7 @@ fn write_breaks(
         let spaces = blanks.before(style, left, right);
         let brk = breaks[at];
         let start = lay_next(style, tokens, column, fixed, state, spaces, brk)?;
-        decide_open(
-            style, line, fixed[at + 1], right, spaces, brk, start, plan,
-        );
+        decide_open(style, line, fixed[at + 1], right, spaces, brk, start, plan);
     }
     Ok(())
 }

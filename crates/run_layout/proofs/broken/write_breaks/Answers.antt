@@ -1,11 +1,9 @@
-use Rattle.std.proofs.Common.{◌∙◌, ◌+◌, ◌||◌, length, map, get_or, refl, ap, false, arith}
-use Rattle.std.specs.Prelude.{None, if◌then◌else◌}
+use Rattle.std.proofs.Common.{◌∙◌, ◌+◌, length, map, get_or, refl, false, arith}
+use Rattle.std.specs.Prelude.{None}
 use Rattle.std.proofs.lemmas.Option.{slice_get_within}
-use Rattle.replacements.specs.declared.gap_text.Decision.{Decision}
-use Rattle.line_state.specs.Layout.{is_some_decision, layout_of}
-use Rattle.replacements.specs.Decisions.{decided}
+use Rattle.line_state.specs.Layout.{layout_of}
 use Rattle.searched_line.specs.Searched.{line_of}
-use Rattle.run_layout.specs.Broken.{number, waits}
+use Rattle.run_layout.specs.Broken.{number}
 use Rattle.run_layout.proofs.Writing.{write_begins, write_goes, write_more, write_ends, blanks_there, token_within, number_of, decision_here}
 use Rattle.run_layout.proofs.broken.write_breaks.Goals as goal
 
