@@ -485,6 +485,8 @@ pub(crate) fn plan_of<'a>(
     ensures plan { IfOk result (IsPlanned style.now (option_map (λ ranges. ranges.now) ranges.entry) budget arena.now) }
     ensures len { IfOk result (λ made. length made.plan ≡ length arena.now.tokens + 1) }
 {
+    // The plan takes room of which it fills a part. What comes behind it stands beside that part.
+    let mut plan = Plan::make(arena, bump)?;
     let context = Context {
         alloc,
         style,
@@ -493,7 +495,6 @@ pub(crate) fn plan_of<'a>(
         classes: item_classes(arena, bump)?,
     };
     let tree = CondTree::build(arena, sections, bump)?;
-    let mut plan = Plan::make(arena, bump)?;
     decide_early(&context, sections, &tree, ranges, bump, &mut plan)?;
     let tally = Tally::new(bump);
     let mut made = Made { plan, tally };

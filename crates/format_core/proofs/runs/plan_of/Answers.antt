@@ -61,14 +61,14 @@ returns-in_err-tree c =
 
 pub returns-in_err-item_classes : goal.returns-in_err-item_classes
 returns-in_err-item_classes c =
-    let result = c.from_residual.result in
-    let err = c.from_residual.ensures.0 in
+    let result = c.from_residual-in_err-item_classes.result in
+    let err = c.from_residual-in_err-item_classes.ensures.0 in
     record { plan = no_value result _ err; len = no_value result _ err }
 
 pub returns-in_err-plan : goal.returns-in_err-plan
 returns-in_err-plan c =
-    let result = c.from_residual-in_err-plan.result in
-    let err = c.from_residual-in_err-plan.ensures.0 in
+    let result = c.from_residual.result in
+    let err = c.from_residual.ensures.0 in
     record { plan = no_value result _ err; len = no_value result _ err }
 
 pub returns-in_err-decide_early : goal.returns-in_err-decide_early
