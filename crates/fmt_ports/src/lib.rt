@@ -70,8 +70,8 @@ pub trait Sink {
         ensures bytes { WriteAppends (taken self.old) (taken self.new) result bytes.now }
         ensures counts { Counts (faults self.old) (faults self.new) result };
 
-    /// The same for the first of some bytes, so many of them. A sink that copies bytes may copy more than it takes, which
-    /// is quicker where it is known how many it copies.
+    /// The same for the first of some bytes, so many of them. A sink that copies bytes may copy more than it takes,
+    /// which is quicker where it is known how many it copies.
     #[inline(always)]
     fn write_front(&mut self, bytes: &[u8], count: usize) -> Result<usize, Failed>
         requires { count ≤ length bytes.now }

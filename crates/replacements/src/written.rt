@@ -1,6 +1,7 @@
 //! The text of a plan.
 
-ghost use Rattle.std.specs.Prelude.{◌≡◌, ◌==◌, ◌&&◌, ◌<◌, ◌≤◌, ◌+◌, ◌++◌, Bool, List, ℕ, length, drop, take, OnOk, false};
+ghost use Rattle.std.specs.Prelude.{◌≡◌, ◌==◌, ◌&&◌, ◌<◌, ◌≤◌, ◌+◌, ◌++◌, Bool, List, ℕ, length, drop, take};
+ghost use Rattle.std.specs.Prelude.{OnOk, false};
 ghost use Rattle.std.specs.Io.KnownBytes.{Appends};
 ghost use Rattle.c_chars.specs.Characters.{mark_len};
 ghost use Rattle.token_arena.specs.declared.directives.Section.{Section};
