@@ -1,17 +1,13 @@
 -- The gaps that stay, place by place.
-use Rattle.std.proofs.Common.{◌≡◌, ◌∙◌, ◌||◌, ℕ, zero, suc, ◌+◌, ◌-◌, ◌<◌, ◌≤◌, ◌⊎◌, inl, inr, Bool, true, false, Option, Some, None, List, [], ◌∷◌, length, get_or, refl, sym, ap, subst, arith}
+use Rattle.std.proofs.Common.{◌≡◌, ◌∙◌, ◌||◌, ℕ, zero, suc, ◌+◌, ◌-◌, ◌<◌, ◌≤◌, ◌⊎◌, inl, inr, Bool, true, false, Some, None, List, get_or, refl, sym, ap, subst, arith}
 use Rattle.std.specs.Prelude.{if◌then◌else◌, slice_get}
 use Rattle.token_arena.specs.Gaps.{Contents}
-use Rattle.token_arena.specs.Stored.{Stored}
 use Rattle.line_gaps.specs.InputColumns.{kept_slot}
-use Rattle.off_regions.specs.Frozen.{frozen_from, frozen_gaps}
-use Rattle.off_regions.specs.Switches.{off_behind}
-use Rattle.off_regions.specs.declared.range.LineRange.{LineRange}
 use Rattle.replacements.specs.Breaks.{has_new_line_at}
 use Rattle.replacements.specs.Sound.{item_before}
 use Rattle.early_gaps.specs.Columns.{column_at}
-use Rattle.early_gaps.specs.Dead.{is_dead_item}
-use Rattle.early_gaps.specs.Joined.{is_backslash, is_joined, is_behind_joined}
+use Rattle.early_gaps.specs.Dead.{is_beside_dead, is_dead_item}
+use Rattle.early_gaps.specs.Joined.{is_backslash, is_beside_joined, is_joined, is_behind_joined}
 use Rattle.early_gaps.specs.Kept.{IsBehind, IsPlain, Passes, is_kept, kept_at}
 use Rattle.early_gaps.specs.declared.behind.Behind.{Behind}
 
@@ -55,15 +51,10 @@ stays_by arena frozen place mark behind here marked before after =
 
 -- ## Marks
 
--- there is a mark for each gap
-length_from : (arena : Contents) (ranges : Option (List LineRange)) (off : Bool) (tokens : List Stored) → length (frozen_from arena ranges off tokens) ≡ length tokens + 1
-length_from arena ranges off [] = refl
-length_from arena ranges off (token ∷ tokens) =
-    let rest : length (frozen_from arena ranges (off_behind arena.dialect off token) tokens) ≡ length tokens + 1 = length_from arena ranges (off_behind arena.dialect off token) tokens in
-    omega (arith, rest)
-
-pub length-frozen_gaps : (arena : Contents) (ranges : Option (List LineRange)) → length (frozen_gaps arena ranges) ≡ length arena.tokens + 1
-length-frozen_gaps arena ranges = length_from arena ranges false arena.tokens
+-- what is kept follows from what is marked
+pub kept_by : (tab : ℕ) (arena : Contents) (marks frozen : List Bool) (place : ℕ) → get_or marks place false ≡ get_or frozen place false → kept_at tab arena marks place ≡ kept_at tab arena frozen place
+kept_by tab arena marks frozen place same =
+    ap (λ (b : Bool). if b || (is_beside_dead arena place || is_beside_joined arena place) then Some (kept_slot (column_at tab arena place)) else None) same
 
 -- ## Plain items
 
@@ -91,16 +82,23 @@ none_further arena frozen from at mark behind marked plain is passes none k low 
   | inr here ↦ rw here (passed_gap arena frozen at mark behind marked plain is passes)
 ]
 
--- one more place is neither marked nor dead
-pub one_marked : (arena : Contents) (frozen : List Bool) (first next : ℕ) → get_or frozen (first + next) false ≡ false → is_dead_item arena (first + next) ≡ false
-    → ((k : ℕ) → first ≤ k → k < first + next → (get_or frozen k false ≡ false) × (is_dead_item arena k ≡ false))
-    → (k : ℕ) → first ≤ k → k < first + (next + 1) → (get_or frozen k false ≡ false) × (is_dead_item arena k ≡ false)
-one_marked arena frozen first next mark dead before k low high = elim (before_or (first + next) k (omega (arith, high))) [
+-- one more gap isn't marked
+pub one_unmarked : (frozen : List Bool) (first next : ℕ) → get_or frozen (first + next) false ≡ false → ((k : ℕ) → first ≤ k → k < first + next → get_or frozen k false ≡ false)
+    → (k : ℕ) → first ≤ k → k < first + (next + 1) → get_or frozen k false ≡ false
+one_unmarked frozen first next mark before k low high = elim (before_or (first + next) k (omega (arith, high))) [
   | inl earlier ↦ before k low earlier
-  | inr same ↦ rw same (mark, dead)
+  | inr same ↦ rw same mark
 ]
 
--- nor a backslash
+-- one more item isn't dead
+pub one_live : (arena : Contents) (first next : ℕ) → is_dead_item arena (first + next) ≡ false → ((k : ℕ) → first ≤ k → k < first + next → is_dead_item arena k ≡ false)
+    → (k : ℕ) → first ≤ k → k < first + (next + 1) → is_dead_item arena k ≡ false
+one_live arena first next dead before k low high = elim (before_or (first + next) k (omega (arith, high))) [
+  | inl earlier ↦ before k low earlier
+  | inr same ↦ rw same dead
+]
+
+-- nor is it a backslash
 pub one_other : (arena : Contents) (first next : ℕ) → is_backslash (slice_get arena.tokens (first + next)) ≡ false
     → ((k : ℕ) → first ≤ k → k < first + next → is_backslash (slice_get arena.tokens k) ≡ false)
     → (k : ℕ) → first ≤ k → k < first + (next + 1) → is_backslash (slice_get arena.tokens k) ≡ false

@@ -1,5 +1,5 @@
 -- What the plan before the runs has.
-use Rattle.std.proofs.Common.{◌≡◌, ◌∙◌, ℕ, ◌+◌, Bool, Option, Some, None, List, [], ◌∷◌, ◌++◌, length, replicate, refl}
+use Rattle.std.proofs.Common.{◌≡◌, ◌∙◌, ℕ, zero, suc, ◌+◌, Bool, false, Option, Some, None, List, [], ◌∷◌, ◌++◌, length, replicate, get_or, refl}
 use Rattle.std.proofs.Common.{sym, ap, arith}
 use Rattle.std.specs.Prelude.{if◌then◌else◌}
 use Rattle.std.proofs.lemmas.List.{length-replicate}
@@ -18,9 +18,10 @@ use Rattle.early_gaps.specs.BeforeRuns.{last_slot, early_decisions, early_plan}
 use Rattle.early_gaps.specs.Columns.{column_at}
 use Rattle.early_gaps.specs.Kept.{kept_at}
 use Rattle.early_gaps.specs.EarlyLaws.{EarlyPlansKeep}
-use Rattle.early_gaps.specs.Made.{made_from}
+use Rattle.early_gaps.specs.Made.{made_at, made_from}
 use Rattle.early_gaps.proofs.Places.{first_of, first_from}
 use Rattle.early_gaps.proofs.SoundStart.{fresh}
+use Rattle.early_gaps.proofs.Staying.{kept_by}
 
 -- A gap that stays has its bytes in the plan before the runs.
 pub early_keeps : EarlyPlansKeep
@@ -40,8 +41,14 @@ pub length-early : (style : Style) (arena : Contents) (ranges : Option (List Lin
 length-early style arena ranges =
     length-decided_all (replicate (length arena.tokens + 1) None) (early_decisions style arena ranges) ∙ length-replicate (length arena.tokens + 1) None
 
+-- places for which the same is told
+made_same : (one other : ℕ → Option Slot) (place count : ℕ) → ((k : ℕ) → one k ≡ other k) → made_from one place count ≡ made_from other place count
+made_same one other place zero same = refl
+made_same one other place (suc count) same =
+    ap (λ (told : Option Slot). made_at place told ++ made_from one (place + 1) count) (same place) ∙ ap (λ (rest : List (ℕ × Slot)). made_at place (other place) ++ rest) (made_same one other (place + 1) count same)
+
 -- what is kept first, then what is decided for directives, and then for the last gap
-pub early_made : (style : Style) (arena : Contents) (ranges : Option (List LineRange)) (marks : List Bool) (last : Slot) (plan kept laid after : List (Option Slot)) → marks ≡ frozen_gaps arena ranges
+pub early_made : (style : Style) (arena : Contents) (ranges : Option (List LineRange)) (marks : List Bool) (last : Slot) (plan kept laid after : List (Option Slot)) → ((place : ℕ) → get_or marks place false ≡ get_or (frozen_gaps arena ranges) place false)
     → kept ≡ decided_all plan (made_from (kept_at style.tab_width arena marks) 0 (length arena.tokens + 1)) → laid ≡ decided_all kept (all_laid style arena)
     → last ≡ last_slot style arena → after ≡ decided laid (length arena.tokens) last
     → after ≡ decided_all plan (early_decisions style arena ranges)
@@ -49,7 +56,7 @@ early_made style arena ranges marks last plan kept laid after are first_is laid_
     let n : ℕ = length arena.tokens in
     let stay : List (ℕ × Slot) = made_from (kept_at style.tab_width arena (frozen_gaps arena ranges)) 0 (n + 1) in
     let end : List (ℕ × Slot) = (n, last_slot style arena) ∷ [] in
-    let kept_is : kept ≡ decided_all plan stay = first_is ∙ ap (λ (m : List Bool). decided_all plan (made_from (kept_at style.tab_width arena m) 0 (n + 1))) are in
+    let kept_is : kept ≡ decided_all plan stay = first_is ∙ ap (decided_all plan) (made_same (kept_at style.tab_width arena marks) (kept_at style.tab_width arena (frozen_gaps arena ranges)) 0 (n + 1) (λ place. kept_by style.tab_width arena marks (frozen_gaps arena ranges) place (are place))) in
     after_is
     ∙ (ap (λ (s : Slot). decided laid n s) last_is
     ∙ (ap (λ (p : List (Option Slot)). decided p n (last_slot style arena)) (laid_is ∙ ap (λ (p : List (Option Slot)). decided_all p (all_laid style arena)) kept_is)
@@ -63,4 +70,4 @@ pub early_steps : (style : Style) (arena : Contents) (ranges : Option (List Line
 early_steps style arena ranges =
     let empty : List (Option Slot) = replicate (length arena.tokens + 1) None in
     let stay : List (ℕ × Slot) = made_from (kept_at style.tab_width arena (frozen_gaps arena ranges)) 0 (length arena.tokens + 1) in
-    sym (early_made style arena ranges (frozen_gaps arena ranges) (last_slot style arena) empty (decided_all empty stay) (decided_all (decided_all empty stay) (all_laid style arena)) _ refl refl refl refl refl)
+    sym (early_made style arena ranges (frozen_gaps arena ranges) (last_slot style arena) empty (decided_all empty stay) (decided_all (decided_all empty stay) (all_laid style arena)) _ (λ place. refl) refl refl refl refl)

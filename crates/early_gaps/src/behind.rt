@@ -90,23 +90,21 @@ pub(crate) fn may_be_backslash(arena: &TokenArena<'_, '_>, classes: &[TokenClass
     matches!(classes[id as usize], TokenClass::Other)
 }
 
-/// Whether an item stands in the group of a literal `#if 0`, or its gap is frozen, or this is so of one before it.
+/// Whether an item stands in the group of a literal `#if 0`, or one before it does.
 #[inline(always)]
-pub(crate) fn stays_or(
+pub(crate) fn dead_or(
     arena: &TokenArena<'_, '_>,
     tree: &CondTree<'_>,
-    frozen: bool,
     place: u32,
-    stays: bool,
+    before: bool,
 ) -> bool
     requires tree { IsTreeOf arena.now tree.now }
     requires within { place < length arena.now.tokens }
-    ensures before { result ≡ false → stays ≡ false }
-    ensures mark { result ≡ false → frozen ≡ false }
+    ensures before { result ≡ false → before ≡ false }
     ensures dead { result ≡ false → is_dead_item arena.now place ≡ false }
 {
     let dead = tree.is_dead(TokenId(place));
-    stays | frozen | dead
+    before | dead
 }
 
 /// Whether no gap stays at a place behind a plain item, and the item there is plain too, as its class tells; its gap is

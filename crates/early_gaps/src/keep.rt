@@ -1,6 +1,6 @@
 //! The gaps that stay as they are.
 
-ghost use Rattle.std.specs.Prelude.{◌≡◌, ◌≤◌, ◌<◌, ◌+◌, ◌||◌, ℕ, Some, None, if◌then◌else◌, false, get_or, length};
+ghost use Rattle.std.specs.Prelude.{◌≡◌, ◌≤◌, ◌<◌, ◌+◌, ◌^◌, ◌||◌, ℕ, Some, None, if◌then◌else◌, false, get_or, length};
 ghost use Rattle.std.specs.Prelude.{IsTrue};
 ghost use Rattle.c_chars.specs.declared.TheConstants.{LIMIT};
 ghost use Rattle.replacements.specs.Decisions.{decided_all};
@@ -12,7 +12,7 @@ ghost use Rattle.early_gaps.specs.Kept.{IsBehind, IsColumn, Passes, is_kept, kep
 ghost use Rattle.early_gaps.specs.Made.{made_at, made_from};
 
 use crate::behind::{
-    Behind, is_plain, may_be_backslash, next_behind, nothing_before, passes, stays_or,
+    Behind, dead_or, is_plain, may_be_backslash, next_behind, nothing_before, passes,
 };
 use crate::columns::{InputColumn, column_from, first_column};
 use branch_runs::CondTree;
@@ -59,6 +59,33 @@ fn keep(
     InputColumn { place, column }
 }
 
+/// Whether the gap at a place is marked. Where there are no marks, none is.
+#[inline(always)]
+fn is_marked(frozen: &[bool], place: u32) -> bool
+    ensures { result ≡ get_or frozen.now place false }
+{
+    match frozen.get(place as usize) {
+        Some(mark) => *mark,
+        None => false,
+    }
+}
+
+/// Whether one of the gaps at eight places from one on is marked. Most texts have no marks.
+#[inline(always)]
+fn is_some_marked(frozen: &[bool], first: u32) -> bool
+    requires { first + 8 < 2 ^ 32 }
+    ensures { result ≡ false → (k : ℕ) → first ≤ k → k < first + 8 → get_or frozen.now k false ≡ false }
+{
+    if frozen.is_empty() {
+        return false;
+    }
+    let mut marked = false;
+    for next in 0..8 {
+        marked |= is_marked(frozen, first + next);
+    }
+    marked
+}
+
 /// Whether no gap stays at eight places from one on behind a plain item, and the items there are plain too.
 #[inline(always)]
 fn pass_eight(
@@ -70,17 +97,18 @@ fn pass_eight(
 ) -> bool
     requires tree { IsTreeOf arena.now tree.now }
     requires all { classes.now ≡ item_classes arena.now }
-    requires marks { length frozen.now ≡ length arena.now.tokens + 1 }
     requires room { first + 8 ≤ length arena.now.tokens }
     ensures { IsTrue result → (k : ℕ) → first ≤ k → k < first + 8 → Passes arena.now (get_or frozen.now k false) k }
 {
     let _count = arena.len();
-    let mut stays = false;
-    for next in 0..8 {
-        let at = first + next;
-        stays = stays_or(arena, tree, frozen[at as usize], at, stays);
+    if is_some_marked(frozen, first) {
+        return false;
     }
-    if stays {
+    let mut dead = false;
+    for next in 0..8 {
+        dead = dead_or(arena, tree, first + next, dead);
+    }
+    if dead {
         return false;
     }
     for next in 0..8 {
@@ -103,7 +131,6 @@ fn plain_front(
 ) -> u32
     requires tree { IsTreeOf arena.now tree.now }
     requires all { classes.now ≡ item_classes arena.now }
-    requires marks { length frozen.now ≡ length arena.now.tokens + 1 }
     requires within { place ≤ length arena.now.tokens }
     ensures later { place ≤ result }
     ensures within { result ≤ length arena.now.tokens }
@@ -133,7 +160,6 @@ fn pass_plain(
 ) -> u32
     requires tree { IsTreeOf arena.now tree.now }
     requires all { classes.now ≡ item_classes arena.now }
-    requires marks { length frozen.now ≡ length arena.now.tokens + 1 }
     requires behind { IsBehind arena.now place behind }
     requires within { place ≤ length arena.now.tokens }
     ensures later { place ≤ result }
@@ -146,7 +172,7 @@ fn pass_plain(
     }
     let count = arena.len();
     for at in plain_front(arena, tree, classes, frozen, place)..count {
-        if !passes(arena, tree, classes, frozen[at as usize], at) {
+        if !passes(arena, tree, classes, is_marked(frozen, at), at) {
             return at;
         }
     }
@@ -154,7 +180,7 @@ fn pass_plain(
 }
 
 /// Keeps the bytes of all gaps that stay, where they are open. `frozen` marks those at which formatting is off or whose
-/// lines aren't asked for. It goes over the items once.
+/// lines aren't asked for, and has no marks where there are none of these. It goes over the items once.
 pub(crate) fn keep_gaps(
     tab: u32,
     arena: &TokenArena<'_, '_>,
@@ -167,7 +193,6 @@ pub(crate) fn keep_gaps(
     requires fits { length arena.now.text ≤ LIMIT }
     requires tree { IsTreeOf arena.now tree.now }
     requires all { classes.now ≡ item_classes arena.now }
-    requires marks { length frozen.now ≡ length arena.now.tokens + 1 }
     requires whole { length plan.old ≡ length arena.now.tokens + 1 }
     ensures plan { plan.new
         ≡ decided_all plan.old (made_from (kept_at tab arena.now frozen.now) 0 (length arena.now.tokens + 1)) }
@@ -179,7 +204,7 @@ pub(crate) fn keep_gaps(
     while place <= arena.len() {
         place = pass_plain(arena, tree, classes, frozen, behind, place);
         let here = next_behind(arena, tree, behind, place);
-        let kept = stays(frozen[place as usize], behind, here);
+        let kept = stays(is_marked(frozen, place), behind, here);
         known = keep(tab, arena, kept, known, place, plan);
         behind = here;
         place += 1;

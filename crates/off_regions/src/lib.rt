@@ -15,5 +15,5 @@ mod switch;
 pub use fault::RangeFault;
 pub use laws::{ranges_stay, regions_stay};
 pub use line_tokens::NoMemory;
-pub use marks::frozen;
+pub use marks::{frozen, stays_nowhere};
 pub use range::{LineRange, MOST_RANGES, Ranges};

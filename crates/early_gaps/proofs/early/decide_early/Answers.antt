@@ -1,13 +1,9 @@
-use Rattle.std.proofs.Common.{◌∙◌, ℕ, Bool, Option, List, length, ap}
+use Rattle.std.proofs.Common.{◌∙◌, ℕ, Option, List, ap}
 use Rattle.replacements.specs.declared.gap_text.Decision.{Decision}
 use Rattle.replacements.specs.declared.slot.Slot.{Slot}
 use Rattle.replacements.specs.Decisions.{decided}
-use Rattle.early_gaps.proofs.Staying.{length-frozen_gaps}
 use Rattle.early_gaps.proofs.Tells.{early_made}
 use Rattle.early_gaps.proofs.early.decide_early.Goals as goal
-
-pub keep_gaps-requires-clause-marks : goal.keep_gaps-requires-clause-marks
-keep_gaps-requires-clause-marks c = ap (λ (marks : List Bool). length marks) c.in_ok-marks.ensures ∙ length-frozen_gaps c.args.context.now.arena.now _
 
 pub returns-clause-plan : goal.returns-clause-plan
 returns-clause-plan c =

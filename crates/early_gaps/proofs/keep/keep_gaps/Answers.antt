@@ -1,4 +1,4 @@
-use Rattle.std.proofs.Common.{◌≡◌, ◌∙◌, ◌+◌, ◌-◌, ℕ, Bool, Some, None, suc, length, refl, ap, arith}
+use Rattle.std.proofs.Common.{◌≡◌, ◌∙◌, ◌+◌, ◌-◌, ℕ, Bool, Some, None, suc, length, ap, arith}
 use Rattle.std.specs.Prelude.{if◌then◌else◌}
 use Rattle.line_gaps.specs.InputColumns.{kept_slot}
 use Rattle.early_gaps.specs.Columns.{column_at}
@@ -19,7 +19,7 @@ loop-place-preserved c =
     let n : ℕ = length arena.tokens + 1 in
     let column : ℕ = column_at tab arena place in
     let kept : c.stays-kept.result ≡ is_kept arena frozen place =
-    c.stays-kept.ensures ∙ stays_by arena frozen place _ c.loop-place.behind c.next_behind-here.result refl passed.behind c.next_behind-here.ensures in
+    c.stays-kept.ensures ∙ stays_by arena frozen place _ c.loop-place.behind c.next_behind-here.result c.is_marked.ensures passed.behind c.next_behind-here.ensures in
     let more : n - place ≡ suc (n - (place + 1)) = omega (arith, passed.within) in
     record {
       within = omega (arith, passed.within);

@@ -1,4 +1,4 @@
-use Rattle.std.proofs.Common.{◌≡◌, ◌<◌, refl, arith, subst}
+use Rattle.std.proofs.Common.{◌≡◌, ◌<◌, arith, subst}
 use Rattle.early_gaps.specs.Kept.{IsBehind}
 use Rattle.early_gaps.proofs.Staying.{one_passed, passed_up_to}
 use Rattle.early_gaps.proofs.keep.pass_plain.Goals as goal
@@ -9,7 +9,7 @@ loop-at-preserved c =
     record {
       later = omega (arith, v.later);
       within = omega (arith, c.loop-at-test.true, c.len-count.ensures.count);
-      passed = one_passed c.args.arena.now c.args.frozen.now c.args.place c.loop-at.at _ refl v.passed (c.passes.ensures c.if-not-passes.false);
+      passed = one_passed c.args.arena.now c.args.frozen.now c.args.place c.loop-at.at _ c.is_marked.ensures v.passed (c.passes.ensures c.if-not-passes.false);
     }
 
 pub returns-then-not-passes-clause-behind : goal.returns-then-not-passes-clause-behind
