@@ -2,7 +2,8 @@
 
 ghost use Rattle.std.specs.Prelude.{◌≡◌, ◌+◌, ◌<◌, ◌≤◌, ◌^◌, length, drop, MatchOption, Some, IfSome, IfNone, ◌∷◌, []};
 ghost use Rattle.std.specs.Prelude.{slice_get};
-ghost use Rattle.c_chars.specs.Characters.{logical, mark_len, is_comment_byte, is_quiet_byte, is_text_byte, is_word_byte};
+ghost use Rattle.c_chars.specs.Characters.{logical, mark_len, is_comment_byte, is_quiet_byte, is_text_byte};
+ghost use Rattle.c_chars.specs.Characters.{is_word_byte};
 ghost use Rattle.c_chars.specs.Coming.{AreBetween, AreBytesPassed, ArePassed, AreSpacesPassed, AreWordsPassed};
 
 use crate::alone::first_character;

@@ -344,8 +344,8 @@ pub fn is_in_text(standing: Standing) -> bool
     matches!(standing, Standing::FirstInLine | Standing::WithinText)
 }
 
-/// Behind an item of this kind that stands in a text line or first in its line and begins with this byte, where that tells
-/// the place; none elsewhere.
+/// Behind an item of this kind that stands in a text line or first in its line and begins with this byte, where that
+/// tells the place; none elsewhere.
 #[inline(always)]
 fn past_plain_in_text(standing: Standing, kind: ItemKind, first: u8) -> Option<Standing>
     requires { IsInText (place_of standing) }

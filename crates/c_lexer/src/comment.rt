@@ -87,8 +87,8 @@ pub(crate) fn behind_line<'s>(text: &Chars<'s>) -> Chars<'s>
     if last == b'\\' { rest } else { kept }
 }
 
-/// What stands behind the block comment that is begun, where it has only printable bytes that tell nothing else and plain
-/// ones end it; none elsewhere. `second` is the character behind its first.
+/// What stands behind the block comment that is begun, where it has only printable bytes that tell nothing else and
+/// plain ones end it; none elsewhere. `second` is the character behind its first.
 #[inline(always)]
 pub(crate) fn cut_plain_block<'s>(begun: &Begun<'s>, second: LogicalChar) -> Option<Chars<'s>>
     requires begun { IsBegun begun.now.text begun.now.first begun.now.behind }

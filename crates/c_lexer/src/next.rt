@@ -95,8 +95,8 @@ pub(crate) struct Placed<'s> {
     pub past: Standing,
 }
 
-/// The item that is begun, which stands in a text line or first in its line, where it is one that plain bytes tell; none
-/// elsewhere.
+/// The item that is begun, which stands in a text line or first in its line, where it is one that plain bytes tell;
+/// none elsewhere.
 #[inline(always)]
 fn place_in_text<'s>(dialect: Dialect, standing: Standing, begun: &Begun<'s>) -> Option<Placed<'s>>
     requires dialect { dialect ≡ begun.now.text.dialect }
@@ -117,8 +117,8 @@ fn place_in_text<'s>(dialect: Dialect, standing: Standing, begun: &Begun<'s>) ->
     }
 }
 
-/// The item that is begun, wherever it stands, where it is one that plain bytes tell; none elsewhere. Most stand in text
-/// lines, where few tell a place.
+/// The item that is begun, wherever it stands, where it is one that plain bytes tell; none elsewhere. Most stand in
+/// text lines, where few tell a place.
 #[inline(always)]
 pub(crate) fn place_begun<'s>(
     dialect: Dialect,

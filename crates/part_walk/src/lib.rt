@@ -7,6 +7,7 @@
 
 mod bodies;
 mod brackets;
+mod classes;
 mod reading;
 mod walk;
 

@@ -5,7 +5,8 @@ ghost use Rattle.part_walk.specs.declared.walk.Around.TheVariants.{Outside, Body
 ghost use Rattle.part_walk.specs.Steps.{opens_group, read_so, StaysWhereItEnds};
 ghost use Rattle.part_walk.specs.Walk.{reading};
 
-use crate::walk::{Around, Outcome, Walk, asked_at, is_lost};
+use crate::classes::is_lost;
+use crate::walk::{Around, Outcome, Walk, asked_at};
 use line_tokens::TokenId;
 use token_arena::TokenArena;
 use token_classes::TokenClass;

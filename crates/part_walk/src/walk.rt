@@ -7,15 +7,16 @@ ghost use Rattle.token_classes.specs.declared.class.TokenClass.TheVariants.{Open
 ghost use Rattle.part_walk.specs.Places.{place_in};
 ghost use Rattle.part_walk.specs.Reading.{GoesOn};
 ghost use Rattle.part_walk.specs.Steps.{body_passed, ends_before_brace, group_passed, may_end, passed, plain_passed};
-ghost use Rattle.part_walk.specs.Walk.{behind_group, behind, is_end, is_between, is_lost, asked_at, asked_in_body};
+ghost use Rattle.part_walk.specs.Walk.{behind_group, behind, is_end, is_between, asked_at, asked_in_body};
 ghost use Rattle.part_walk.specs.Walk.{is_apart, is_body, is_commented, next_declaration, begins_outside, opening};
-ghost use Rattle.part_walk.specs.Walk.{start, is_record, is_label, is_leading, begins_statement, begins_behind};
+ghost use Rattle.part_walk.specs.Walk.{start, is_label, is_leading, begins_statement, begins_behind};
 ghost use Rattle.part_walk.specs.Walk.{begins_block, ends_statement, begins_members_in_body, begins_members_outside};
 ghost use Rattle.part_walk.specs.Walk.{heads_structure, is_behind_if, headed_by, goes_on_with, kept_begun, next_begun};
 ghost use Rattle.part_walk.specs.Walk.{next_held, next_last, end_in_body, parts_statements, past_comment, in_body};
 ghost use Rattle.part_walk.specs.Walk.{in_group, outside, reading, entered, left};
 
 use crate::bodies::{BodyKind, BodyPlace, Head};
+use crate::classes::{is_label, is_leading, is_record};
 use line_tokens::TokenId;
 use token_arena::TokenArena;
 use token_classes::TokenClass;
@@ -241,46 +242,6 @@ impl Declaration {
             commented: self.is_commented(before, class),
         }
     }
-}
-
-/// Whether no part ends behind a token that stands outside brackets: the word of a control statement or of a label.
-pub(crate) fn is_lost(class: TokenClass) -> bool
-    ensures { result ≡ is_lost class }
-{
-    class.is_control() || class.is_case() || class.is_default()
-}
-
-/// Whether a token is the word of a label of a switch.
-#[inline(always)]
-pub(crate) fn is_label(class: TokenClass) -> bool
-    ensures { result ≡ is_label class }
-{
-    class.is_case() || class.is_default()
-}
-
-/// Whether a token is `struct` or `union`.
-#[inline(always)]
-pub(crate) fn is_record(class: TokenClass) -> bool
-    ensures { result ≡ is_record class }
-{
-    class.is_struct() || class.is_union()
-}
-
-/// Whether a statement that begins with such a token may have a body.
-fn is_leading(class: TokenClass) -> bool
-    ensures { result ≡ is_leading class }
-{
-    matches!(
-        class,
-        TokenClass::If
-            | TokenClass::For
-            | TokenClass::While
-            | TokenClass::Do
-            | TokenClass::Switch
-            | TokenClass::Struct
-            | TokenClass::Union
-            | TokenClass::OpenBrace
-    )
 }
 
 /// How many items a part has at least that ends in a body behind which a directive stands.

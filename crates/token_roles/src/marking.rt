@@ -167,8 +167,8 @@ fn mark_still(marks: &mut Vec<Mark, &Bump>, left: &mut Left, class: TokenClass, 
     pass_still(left, seen);
 }
 
-/// Tells what is to be told of a plain word, and goes behind it. Either role is known where it is written, so that it is
-/// written together with the class.
+/// Tells what is to be told of a plain word, and goes behind it. Either role is known where it is written, so that it
+/// is written together with the class.
 #[inline(always)]
 fn mark_word(
     kind: LineKind,
@@ -213,8 +213,8 @@ pub fn mark_comment(marks: &mut Vec<Mark, &Bump>, left: &mut Left, seen: Seen)
 ///
 /// `first` is the place where its line begins, `before` is the last token before the line that is no comment, and
 /// `after` is the rest of the line. The caller has room for the token.
-// Of a class that has an arm of its own the tables keep one row, so the most frequent do. Others share an arm where they
-// have one role.
+// Of a class that has an arm of its own the tables keep one row, so the most frequent do. Others share an arm where
+// they have one role.
 #[inline(always)]
 pub fn mark_token(
     partners: &[Partner],

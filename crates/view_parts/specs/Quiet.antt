@@ -72,7 +72,8 @@ is_square _ = false
 
 -- the kinds of the brackets that are open
 abbrev pub kinds_in : OpenKinds → List TokenClass
-kinds_in kinds = if kinds.square then OpenSquare ∷ replicate kinds.rounds OpenRound else replicate kinds.rounds OpenRound
+kinds_in kinds =
+    if kinds.square then OpenSquare ∷ replicate kinds.rounds OpenRound else replicate kinds.rounds OpenRound
 
 -- so many braces are open behind this token
 abbrev pub depth_behind : ℕ → TokenClass → ℕ

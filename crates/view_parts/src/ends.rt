@@ -1,7 +1,7 @@
 //! Where the parts of a view end.
 
-ghost use Rattle.std.specs.Prelude.{◌&&◌, ◌||◌, ◌≡◌, ◌<◌, ◌≤◌, ◌∷◌, [], ◌+◌, ◌-◌, ◌^◌, ℕ, true, false, not, All, length, drop};
-ghost use Rattle.std.specs.Prelude.{take, get_or, slice_range, IfOk, IfSome, None, Some};
+ghost use Rattle.std.specs.Prelude.{◌&&◌, ◌||◌, ◌≡◌, ◌<◌, ◌≤◌, ◌∷◌, [], ◌+◌, ◌-◌, ◌^◌, ℕ, true, false, not, All};
+ghost use Rattle.std.specs.Prelude.{length, drop, take, get_or, slice_range, IfOk, IfSome, None, Some};
 ghost use Rattle.std.specs.Option.{ForNone, ForSome};
 ghost use Rattle.std.specs.List.{prefix_len};
 ghost use Rattle.token_arena.specs.Ids.{Increase};

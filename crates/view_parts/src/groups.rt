@@ -1,7 +1,7 @@
 //! Groups in round and square brackets that are passed at once.
 
-ghost use Rattle.std.specs.Prelude.{◌≡◌, ◌||◌, ◌<◌, ◌≤◌, ◌+◌, ◌^◌, ◌∷◌, [], ℕ, false, true, get_or, length, take, IfSome};
-ghost use Rattle.std.specs.Prelude.{if◌then◌else◌, replicate};
+ghost use Rattle.std.specs.Prelude.{◌≡◌, ◌||◌, ◌<◌, ◌≤◌, ◌+◌, ◌^◌, ◌∷◌, [], ℕ, false, true, get_or, length};
+ghost use Rattle.std.specs.Prelude.{take, IfSome, if◌then◌else◌, replicate};
 ghost use Rattle.token_classes.specs.declared.class.TokenClass.{TokenClass};
 ghost use Rattle.part_walk.specs.declared.walk.Around.TheVariants.{Group};
 ghost use Rattle.part_walk.specs.Steps.{opens_group};
