@@ -253,14 +253,15 @@ fn clear(room: &mut Bump, alloc: Global) {
 }
 
 /// Goes over a window from part to part, up to the first one that begins behind what is new. Where the window doesn't
-/// tell where a part ends, the result is the item with which it begins. What a part takes of memory serves the next one
-/// too.
+/// tell where a part ends, the result is the item with which it begins. What a part takes of memory is of the room, and
+/// serves the next one too.
 fn lay_out_window<'k>(
     context: &Context<'_>,
     window: &Window<'_>,
     known: &mut KnownParts<'k>,
     made: &mut Made<'_>,
     way: &mut Way<'k>,
+    room: &mut Bump,
 ) -> Result<Option<TokenId>, NoMemory>
     requires ready { IsReady context.now }
     requires within { AreWithin context.now.arena.now window.now.view }
@@ -312,7 +313,6 @@ fn lay_out_window<'k>(
     let count = view.len();
     let items = context.arena.len();
     prove!(count <= items);
-    let mut room = Bump::new(context.alloc);
     while way.first < count {
         let first = way.first;
         let begins = way.inside;
@@ -320,13 +320,13 @@ fn lay_out_window<'k>(
         if id.0 >= window.new_end {
             return Ok(None);
         }
-        let found = lay_out_next(context, window, id, known, made, way, &room)?;
+        let found = lay_out_next(context, window, id, known, made, way, room)?;
         let Some(parts) = found else {
             return Ok(Some(id));
         };
         let bounds = &mut known.bounds;
         note_bound(context.arena, window, begins, first, parts, bounds, way)?;
-        clear(&mut room, context.alloc);
+        clear(room, context.alloc);
     }
     Ok(None)
 }
@@ -350,6 +350,7 @@ fn lay_out_seen<'k>(
     made: &mut Made<'_>,
     ahead: &mut u32,
     run: &Bump,
+    room: &mut Bump,
 ) -> Result<(), NoMemory>
     requires ready { IsReady context.now }
     requires tree { IsTreeOf context.now.arena.now tree.now }
@@ -389,7 +390,7 @@ fn lay_out_seen<'k>(
             later: turn.later,
         };
         let mut way = Way::start(told, inside);
-        let stopped = lay_out_window(context, &window, known, made, &mut way)?;
+        let stopped = lay_out_window(context, &window, known, made, &mut way, room)?;
         let Some(id) = stopped else {
             *ahead = ahead_of(turn.new_end, way.told, end);
             return Ok(());
@@ -425,8 +426,8 @@ fn note_from(spans: &mut KnownSpans<'_>, least: Option<u32>)
     spans.least = least;
 }
 
-/// Decides the gaps of all items of texts, run by run. A run that sees nothing new is passed over. What a run takes of
-/// memory serves the next one too.
+/// Decides the gaps of all items of texts, run by run. A run that sees nothing new is passed over. What a run and its
+/// parts take of memory serves the next one too.
 fn lay_out_runs(
     context: &Context<'_>,
     tree: &CondTree<'_>,
@@ -447,6 +448,7 @@ fn lay_out_runs(
     let again = if count > 1 { items } else { 0 };
     let mut known = KnownParts::none(again as usize, keep)?;
     let mut run = Bump::new(context.alloc);
+    let mut room = Bump::new(context.alloc);
     let mut ahead = LEAST_AHEAD;
     for number in 0..count {
         let change = change_of(context.arena, tree, number);
@@ -461,7 +463,9 @@ fn lay_out_runs(
             new_end: change.end,
             later: number + 1 < count,
         };
-        lay_out_seen(context, tree, &turn, &mut known, made, &mut ahead, &run)?;
+        lay_out_seen(
+            context, tree, &turn, &mut known, made, &mut ahead, &run, &mut room,
+        )?;
         clear(&mut run, context.alloc);
     }
     Ok(())
