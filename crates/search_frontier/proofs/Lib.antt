@@ -1,3 +1,2 @@
 mod Heaps
 mod Queue
-mod Sifting

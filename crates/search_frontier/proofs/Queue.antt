@@ -1,5 +1,6 @@
 -- An entry that stands beside the heap of the others.
 use Rattle.std.proofs.Common.{◌≡◌, ℕ, ◌+◌, ◌<◌, inl, inr, Option, Some, None, IfSome, List, [], ◌∷◌, drop, length, refl, ap, arith, slice_get, subst, suc, sym, zero}
+use Rattle.std.specs.BinaryHeap.{IsHeap}
 use Rattle.std.specs.List.Sorted.{IsPermutation}
 use Rattle.std.specs.List.{slice_index_or}
 use Rattle.std.proofs.lemmas.Bool.{cases_lt}
@@ -7,7 +8,7 @@ use Rattle.std.proofs.lemmas.List.Sorted.{Contains-permutation, IsPermutation-sy
 use Rattle.std.proofs.lemmas.Option.{slice_get-get_or}
 use Rattle.search_frontier.specs.declared.frontier.Top.{Top}
 use Rattle.search_frontier.specs.declared.frontier.Top.TheVariants.{Waits, CameOff}
-use Rattle.search_frontier.specs.Frontier.{Entry, IsUpTo, IsHeap, ComesFirst, IsQueue, left_of, waiting, Pushes, Pops, Exchanges}
+use Rattle.search_frontier.specs.Frontier.{Entry, order, IsUpTo, ComesFirst, IsQueue, left_of, waiting, Pushes, Pops, Exchanges}
 use Rattle.search_frontier.proofs.Heaps.{Contains-cons, Contains-cons_cases, first_below, pops, pushes, topmost_first, up_to_more}
 
 -- an entry that isn't after the first one
@@ -34,13 +35,13 @@ least_permuted x one other same least = λ e c. least e (Contains-permutation ot
 near : (x : Entry) (entries : List Entry) (k : ℕ) (d : Entry) → k < length entries → ((y : Entry) → slice_get entries k ≡ Some y → IsUpTo x y) → IsUpTo x (slice_index_or entries k d)
 near x entries k d l up = up (slice_index_or entries k d) (slice_get-get_or entries k d l)
 
-pub least_below : (x : Entry) (entries : List Entry) → IsHeap entries → ((y : Entry) → slice_get entries 1 ≡ Some y → IsUpTo x y) → ((y : Entry) → slice_get entries 2 ≡ Some y → IsUpTo x y) → ComesFirst x (drop 1 entries)
+pub least_below : (x : Entry) (entries : List Entry) → IsHeap order entries → ((y : Entry) → slice_get entries 1 ≡ Some y → IsUpTo x y) → ((y : Entry) → slice_get entries 2 ≡ Some y → IsUpTo x y) → ComesFirst x (drop 1 entries)
 least_below x entries heap one two = first_below x entries heap (λ k d a b c. elim (cases_lt k 2) [
   | inl less ↦ (let e : k ≡ 1 = omega (arith, a, less) in subst (λ (n : ℕ). IsUpTo x (slice_index_or entries n d)) (sym e) (near x entries 1 d (omega (arith, c, e)) one))
   | inr more ↦ (let e : k ≡ 2 = omega (arith, b, more) in subst (λ (n : ℕ). IsUpTo x (slice_index_or entries n d)) (sym e) (near x entries 2 d (omega (arith, c, e)) two))
 ])
 
-pub least_of_heap : (x : Entry) (entries : List Entry) → IsHeap entries → ((y : Entry) → slice_get entries 0 ≡ Some y → IsUpTo x y) → ComesFirst x entries
+pub least_of_heap : (x : Entry) (entries : List Entry) → IsHeap order entries → ((y : Entry) → slice_get entries 0 ≡ Some y → IsUpTo x y) → ComesFirst x entries
 least_of_heap x [] heap up = λ e c. absurd (omega (arith, c.1))
 least_of_heap x (y ∷ rest) heap up = least_of x y rest (up y refl) (topmost_first y rest heap)
 
@@ -48,7 +49,7 @@ all_wait : Waits ≡ CameOff → ⊥
 all_wait e = cc
 
 -- an entry goes to the others
-pub queue_more : (first : Option (ℕ × ℕ × ℕ)) (top : Top) (x : Entry) (old new : List Entry) → IsQueue first top old → IsPermutation (x ∷ left_of top old) new → (IsHeap old → IsHeap new) → IfSome first (λ y. IsUpTo (record { 0 = y }) x) → IsQueue first Waits new
+pub queue_more : (first : Option (ℕ × ℕ × ℕ)) (top : Top) (x : Entry) (old new : List Entry) → IsQueue first top old → IsPermutation (x ∷ left_of top old) new → (IsHeap order old → IsHeap order new) → IfSome first (λ y. IsUpTo (record { 0 = y }) x) → IsQueue first Waits new
 queue_more None top x old new queue same keeps up = record { heap = keeps queue.heap; some = λ e. absurd (all_wait e); least = queue.least }
 queue_more (Some y) top x old new queue same keeps up = record { heap = keeps queue.heap; some = λ e. absurd (all_wait e); least = least_permuted (record { 0 = y }) (x ∷ left_of top old) new same (least_of_both (record { 0 = y }) x (left_of top old) up queue.least) }
   where
@@ -71,7 +72,7 @@ pushed_behind (Some y) x old new same =
 
 -- .. or comes first, and the one that was first goes to the others, or can't
 module _ (x : ℕ × ℕ × ℕ) where
-  pub queue_second : (first : Option (ℕ × ℕ × ℕ)) (top : Top) (y : ℕ × ℕ × ℕ) (old new : List Entry) → first ≡ Some y → IsQueue first top old → ComesFirst (record { 0 = x }) (waiting first (left_of top old)) → IsPermutation (record { 0 = y } ∷ left_of top old) new → (IsHeap old → IsHeap new) → IsQueue (Some x) Waits new
+  pub queue_second : (first : Option (ℕ × ℕ × ℕ)) (top : Top) (y : ℕ × ℕ × ℕ) (old new : List Entry) → first ≡ Some y → IsQueue first top old → ComesFirst (record { 0 = x }) (waiting first (left_of top old)) → IsPermutation (record { 0 = y } ∷ left_of top old) new → (IsHeap order old → IsHeap order new) → IsQueue (Some x) Waits new
   queue_second None top y old new e queue least same keeps = absurd (none_some e)
     where
       none_some : None ≡ Some y → ⊥
@@ -118,7 +119,7 @@ popped_first (Some z) after top x entries e none queue =
     } in
     subst (λ (w : ℕ × ℕ × ℕ). Pops (record { 0 = w } ∷ others) (waiting after others) (record { 0 = x })) (sym same) (subst (λ (f : Option (ℕ × ℕ × ℕ)). Pops (record { 0 = x } ∷ others) (waiting f others) (record { 0 = x })) (sym none) off)
 
-topmost_off : (x : Entry) (old entries : List Entry) → slice_get entries 0 ≡ Some x → IsPermutation old entries → IsHeap entries → Pops old (drop 1 entries) x
+topmost_off : (x : Entry) (old entries : List Entry) → slice_get entries 0 ≡ Some x → IsPermutation old entries → IsHeap order entries → Pops old (drop 1 entries) x
 topmost_off x old [] e same heap = absurd (none_some e)
   where
     none_some : None ≡ Some x → ⊥
@@ -130,13 +131,13 @@ topmost_off x old (y ∷ rest) e same heap =
     entry_same : Some y ≡ Some x → y ≡ x
     entry_same h = cc
 
-pub popped_behind : (first after : Option (ℕ × ℕ × ℕ)) (x : Entry) (old entries : List Entry) → first ≡ None → after ≡ None → IsPermutation old entries → slice_get entries 0 ≡ Some x → IsHeap entries → Pops (waiting first old) (waiting after (drop 1 entries)) x
+pub popped_behind : (first after : Option (ℕ × ℕ × ℕ)) (x : Entry) (old entries : List Entry) → first ≡ None → after ≡ None → IsPermutation old entries → slice_get entries 0 ≡ Some x → IsHeap order entries → Pops (waiting first old) (waiting after (drop 1 entries)) x
 popped_behind first after x old entries one other same at heap =
     let off : Pops old (drop 1 entries) x = topmost_off x old entries at same heap in
     subst (λ (f : Option (ℕ × ℕ × ℕ)). Pops (waiting f old) (waiting after (drop 1 entries)) x) (sym one) (subst (λ (f : Option (ℕ × ℕ × ℕ)). Pops old (waiting f (drop 1 entries)) x) (sym other) off)
 
 -- an entry that isn't after those that are looked at, where none stands beside the heap
-pub least_waits : (first : Option (ℕ × ℕ × ℕ)) (top : Top) (x : Entry) (entries : List Entry) → first ≡ None → top ≡ Waits → IsHeap entries → ((y : Entry) → slice_get entries 0 ≡ Some y → IsUpTo x y) → ComesFirst x (waiting first (left_of top entries))
+pub least_waits : (first : Option (ℕ × ℕ × ℕ)) (top : Top) (x : Entry) (entries : List Entry) → first ≡ None → top ≡ Waits → IsHeap order entries → ((y : Entry) → slice_get entries 0 ≡ Some y → IsUpTo x y) → ComesFirst x (waiting first (left_of top entries))
 least_waits first top x entries none waits heap up = subst (λ (f : Option (ℕ × ℕ × ℕ)). ComesFirst x (waiting f (left_of top entries))) (sym none) (subst (λ (t : Top). ComesFirst x (left_of t entries)) (sym waits) (least_of_heap x entries heap up))
 
 pub least_came_off : (first : Option (ℕ × ℕ × ℕ)) (top : Top) (x : Entry) (entries : List Entry) → first ≡ None → top ≡ CameOff → ComesFirst x (drop 1 entries) → ComesFirst x (waiting first (left_of top entries))

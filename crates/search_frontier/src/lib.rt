@@ -5,6 +5,5 @@
 #![tactic(auto)]
 
 mod frontier;
-mod heap;
 
 pub use frontier::Frontier;

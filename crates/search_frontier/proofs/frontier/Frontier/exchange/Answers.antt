@@ -4,7 +4,7 @@ use Rattle.search_frontier.proofs.Queue.{queue_more, pushed_behind, one_more, go
 use Rattle.search_frontier.proofs.frontier.Frontier.exchange.Goals as goal
 
 pub returns-then-is_least-clause-exchanges : goal.returns-then-is_least-clause-exchanges
-returns-then-is_least-clause-exchanges c = rw (← c.self.view_is) (goes_nowhere (entry c.args.least c.args.index c.args.node) _ (rw c.as_slice.ensures.value at c.if-is_least.ensures.yes))
+returns-then-is_least-clause-exchanges c = rw (← c.self.view_is) (goes_nowhere (entry c.args.least c.args.index c.args.node) _ c.if-is_least.ensures.yes)
 
 pub invariant_of-self-2 : goal.invariant_of-self-2
 invariant_of-self-2 c = queue_more c.self.inside.first c.self.inside.top (entry c.args.least c.args.index c.args.node) _ _ c.self.invariant c.in_ok-push_behind.ensures.permutation c.in_ok-push_behind.ensures.heap_order c.if-is_least.ensures.no
