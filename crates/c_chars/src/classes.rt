@@ -1,11 +1,12 @@
 //! Classes of bytes, and how many of a class some bytes begin with.
 
 ghost use Rattle.std.specs.Prelude.{◌≡◌, ◌==◌, ◌<◌, ◌≤◌, false, get_or, length, take, if◌then◌else◌, IsTrue};
-ghost use Rattle.std.specs.List.{prefix_len};
-ghost use Rattle.c_chars.specs.Characters.{are_words, is_plain, is_quiet_byte, is_row_byte, is_space_byte};
-ghost use Rattle.c_chars.specs.Characters.{is_word_byte};
+ghost use Rattle.std.specs.List.{list_all, prefix_len};
+ghost use Rattle.c_chars.specs.Characters.{are_words, is_plain, is_quiet_byte, is_quiet_comment, is_row_byte};
+ghost use Rattle.c_chars.specs.Characters.{is_space_byte, is_word_byte};
 
-use crate::lanes::{ByteClass, CommentBytes, QuietBytes, RowBytes, SpaceBytes, WordBytes};
+use crate::lanes::{ByteClass, CommentBytes, QuietBytes, QuietCommentBytes, RowBytes, SpaceBytes};
+use crate::lanes::WordBytes;
 use std::simd::prelude::*;
 
 /// What a table tells of a byte.
@@ -177,6 +178,20 @@ pub(crate) fn words_len(bytes: &[u8]) -> usize
     ensures words { IsTrue (are_words (take result bytes.now)) }
 {
     let mut len = run_len::<CommentBytes>(bytes);
+    while len > 0 && is_space_byte(bytes[len - 1]) {
+        len -= 1;
+    }
+    len
+}
+
+/// How many printable bytes of comments these begin with, up to the last that is no space.
+#[inline(never)]
+pub(crate) fn quiet_words_len(bytes: &[u8]) -> usize
+    ensures within { result ≤ length bytes.now }
+    ensures words { IsTrue (are_words (take result bytes.now)) }
+    ensures quiet { IsTrue (list_all is_quiet_comment (take result bytes.now)) }
+{
+    let mut len = run_len::<QuietCommentBytes>(bytes);
     while len > 0 && is_space_byte(bytes[len - 1]) {
         len -= 1;
     }

@@ -2,8 +2,8 @@
 
 ghost use Rattle.std.specs.Prelude.{◌≡◌, ℕ, Bool, map, not};
 ghost use Rattle.std.specs.Simd.Lanes.{mask_l};
-ghost use Rattle.c_chars.specs.Characters.{is_comment_byte, is_quiet_byte, is_space_byte, is_text_byte};
-ghost use Rattle.c_chars.specs.Characters.{is_row_byte, is_word_byte};
+ghost use Rattle.c_chars.specs.Characters.{is_comment_byte, is_quiet_byte, is_quiet_comment, is_space_byte};
+ghost use Rattle.c_chars.specs.Characters.{is_row_byte, is_text_byte, is_word_byte};
 
 use std::simd::prelude::*;
 
@@ -91,6 +91,21 @@ impl ByteClass for QuietBytes {
         let quote = sixteen.simd_eq(u8x16::splat(b'"')) | sixteen.simd_eq(u8x16::splat(b'\''));
         let written = sixteen.simd_eq(u8x16::splat(b'?')) | sixteen.simd_eq(u8x16::splat(b'\\'));
         (unprintable | star | quote | written).to_bitmask()
+    }
+}
+
+/// Printable bytes of comments.
+pub(crate) struct QuietCommentBytes;
+
+impl ByteClass for QuietCommentBytes {
+    ghost holds = { is_quiet_comment };
+
+    #[inline(always)]
+    fn stops(sixteen: u8x16) -> u64 {
+        let unprintable = (sixteen - u8x16::splat(b' ')).simd_ge(u8x16::splat(95));
+        let star = sixteen.simd_eq(u8x16::splat(b'*'));
+        let written = sixteen.simd_eq(u8x16::splat(b'?')) | sixteen.simd_eq(u8x16::splat(b'\\'));
+        (unprintable | star | written).to_bitmask()
     }
 }
 

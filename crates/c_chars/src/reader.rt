@@ -2,13 +2,13 @@
 
 ghost use Rattle.std.specs.Prelude.{◌≡◌, ◌+◌, ◌<◌, ◌≤◌, ◌^◌, length, drop, MatchOption, Some, IfSome, IfNone, ◌∷◌, []};
 ghost use Rattle.std.specs.Prelude.{slice_get};
-ghost use Rattle.c_chars.specs.Characters.{logical, mark_len, is_comment_byte, is_quiet_byte, is_text_byte};
-ghost use Rattle.c_chars.specs.Characters.{is_word_byte};
+ghost use Rattle.c_chars.specs.Characters.{logical, mark_len, is_comment_byte, is_quiet_byte, is_quiet_comment};
+ghost use Rattle.c_chars.specs.Characters.{is_text_byte, is_word_byte};
 ghost use Rattle.c_chars.specs.Coming.{AreBetween, AreBytesPassed, ArePassed, AreSpacesPassed, AreWordsPassed};
 
 use crate::alone::first_character;
 use crate::classes::{
-    first_space_len, is_plain, quiet_len, run_len, space_len, word_len, words_len,
+    first_space_len, is_plain, quiet_len, quiet_words_len, run_len, space_len, word_len, words_len,
 };
 use crate::front::behind;
 use crate::lanes::{CommentBytes, TextBytes};
@@ -293,6 +293,19 @@ impl<'s> Chars<'s> {
         ensures { AreWordsPassed self.old self.new }
     {
         let len = words_len(self.cursor.rest());
+        self.cursor.pass(len);
+    }
+
+    /// Steps behind the last of the printable characters of ASCII that come next and are none of `*?\\`, and that is no
+    /// space: what most line comments are.
+    ///
+    /// It may stop before a further one, where lines are spliced between the two.
+    #[inline(always)]
+    pub fn pass_quiet_words(&mut self)
+        ensures passed { AreWordsPassed self.old self.new }
+        ensures bytes { AreBytesPassed is_quiet_comment self.old self.new }
+    {
+        let len = quiet_words_len(self.cursor.rest());
         self.cursor.pass(len);
     }
 
