@@ -192,6 +192,9 @@ told_other d p k f past plain h = λ s first. h ∙ plain_place d p k s plain
 pub told_comment : (d : Dialect) (p : Place) (f : ℕ) (past : Standing) → place_of past ≡ past_comment p → IsToldPlace d p BlockComment f (Some past)
 told_comment d p f past h = λ s first. h
 
+pub told_line : (d : Dialect) (p : Place) (f : ℕ) (past : Standing) → place_of past ≡ past_comment p → IsToldPlace d p LineComment f (Some past)
+told_line d p f past h = λ s first. h
+
 -- a character that reaches up to what is left of the text, and is a hash
 hash_there : (d : Dialect) (at high n : ℕ) (s : List LogicalChar) (c : LogicalChar) → AreBetween at s high → slice_get s 0 ≡ Some c → c.byte ≡ 35 → n ≤ length s → c.to ≡ (passed d at s n).at
     → is_hash (take n (bytes_of s)) ≡ true

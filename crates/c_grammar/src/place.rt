@@ -252,9 +252,8 @@ fn past_plain(dialect: Dialect, standing: Standing, kind: ItemKind, first: u8) -
         ItemKind::Identifier => past_plain_word(standing),
         ItemKind::Punct => past_plain_mark(standing, first),
         ItemKind::Number | ItemKind::CharConst | ItemKind::StringLit => Some(past_other(standing)),
-        ItemKind::BlockComment => Some(past_comment(standing)),
-        ItemKind::HeaderName | ItemKind::StrayQuote | ItemKind::Other | ItemKind::LineComment =>
-            None,
+        ItemKind::BlockComment | ItemKind::LineComment => Some(past_comment(standing)),
+        ItemKind::HeaderName | ItemKind::StrayQuote | ItemKind::Other => None,
     }
 }
 

@@ -5,21 +5,21 @@ use Rattle.std.specs.List.{list_all, starts_with}
 use Rattle.std.proofs.lemmas.Bool.{and_from, and_parts, eq-eqb, ne_eqb}
 use Rattle.std.proofs.lemmas.Bool.Decides.{nat_tests}
 use Rattle.std.proofs.lemmas.List.{length-append}
-use Rattle.c_chars.specs.Characters.{bytes_of, placed, is_comment_byte, is_comment_ink, is_ink_byte, is_quiet_byte, is_space_byte, is_text_byte}
-use Rattle.c_chars.specs.Coming.{Coming, AreBytesPassed, ArePassed, behind}
+use Rattle.c_chars.specs.Characters.{bytes_of, placed, is_comment_byte, is_comment_ink, is_ink_byte, is_quiet_byte, is_quiet_comment, is_space_byte, is_text_byte}
+use Rattle.c_chars.specs.Coming.{Coming, AreBytesPassed, ArePassed, AreWordsPassed, behind}
 use Rattle.c_chars.specs.declared.LogicalChar.{LogicalChar}
 use Rattle.c_chars.proofs.Steps.{behind_next}
 use Rattle.c_grammar.specs.Bytes.{is_quote_mark}
 use Rattle.c_grammar.specs.Grammar.{is_new_line}
 use Rattle.c_grammar.proofs.Lists.{all_append}
-use Rattle.item_kinds.specs.declared.ItemKind.TheVariants.{BlockComment, CharConst, StringLit}
-use Rattle.c_lexer.specs.Comment.{block_len, closes_block}
+use Rattle.item_kinds.specs.declared.ItemKind.TheVariants.{BlockComment, CharConst, LineComment, StringLit}
+use Rattle.c_lexer.specs.Comment.{block_len, closes_block, line_len}
 use Rattle.c_lexer.specs.Cut.{IsCutOff}
 use Rattle.c_lexer.specs.Quote.{closes_quote, quote_len}
 use Rattle.c_lexer.specs.Reading.{AreOwnBytes, IsBegun, is_own_byte}
-use Rattle.c_lexer.proofs.CutOffs.{behind_again, block_off}
+use Rattle.c_lexer.proofs.CutOffs.{behind_again, block_off, line_off}
 use Rattle.c_lexer.proofs.MarksOff.{char_there, string_there}
-use Rattle.c_lexer.proofs.Passing.{block_next, first_is, passed_block, passed_quote}
+use Rattle.c_lexer.proofs.Passing.{block_next, first_is, passed_block, passed_line, passed_quote}
 use Rattle.c_lexer.proofs.PlainBytes.{each, next_one, next_passed, none_passed, one_passed}
 use Rattle.c_lexer.proofs.Plains.{begun_first, no_pair, one_behind}
 
@@ -178,4 +178,28 @@ quiet_comment_own z t y left f c f_is second from to c_is t_is passed end = reco
       (passed_on is_own_byte t y left (bytes_as is_quiet_byte is_own_byte t y quiet_own passed)
       (passed_on is_own_byte y end.between left (one_more is_own_byte y end.between end.star end.first (own_byte end.star.byte 42 end.star_is refl))
       (one_more is_own_byte end.between left end.slash end.second (own_byte end.slash.byte 47 end.slash_is refl))));
+}
+
+-- Line comments.
+
+line_own_byte : (b : ℕ) → is_quiet_comment b ≡ true → is_own_byte b ≡ true
+unfolding is_quiet_comment is_comment_byte is_comment_ink is_space_byte is_own_byte
+line_own_byte b h = grind (arith, nat_tests)
+
+pub quiet_line : (x z t y : Coming) (f c e : LogicalChar) → IsBegun x f z → f.byte ≡ 47 → slice_get z.chars 0 ≡ Some c → c.byte ≡ 47 → t ≡ behind z 1 → AreWordsPassed t y → slice_get y.chars 0 ≡ Some e → is_new_line e.byte ≡ true
+    → IsCutOff x y LineComment
+quiet_line x z t y f c e begun f_is second c_is t_is passed next ends =
+    let slash = eq-eqb 47 f.byte (sym f_is) in
+    let other = eq-eqb 47 c.byte (sym c_is) in
+    let chars = begun.chars_are ∙ ap (λ s. f ∷ s) (next_passed z.dialect z.at z.chars c second).0 in
+    let begins : starts_with nat_eq (bytes_of x.chars) (47 ∷ 47 ∷ []) ≡ true = ap (λ s. starts_with nat_eq (bytes_of s) (47 ∷ 47 ∷ [])) chars ∙ rw (slash, other) refl in
+    let two : t ≡ behind x 2 = t_is ∙ (ap (λ w. behind w 1) (one_behind x z f begun) ∙ behind_again x 1 1) in
+    let none : line_len 47 (bytes_of y.chars) ≡ 0 = ap (λ s. line_len 47 (bytes_of s)) (next_passed y.dialect y.at y.chars e next).0 ∙ rw ends refl in
+    line_off x t y begins two (sym (ap (λ n. behind y n) none) ∙ passed_line 47 t y refl passed)
+
+pub quiet_line_own : (z t y : Coming) (f c : LogicalChar) → f.byte ≡ 47 → slice_get z.chars 0 ≡ Some c → c.from ≡ z.at → c.to ≡ z.at + 1 → c.byte ≡ 47 → t ≡ behind z 1 → AreBytesPassed is_quiet_comment t y → AreOwnBytes f z y
+unfolding is_own_byte
+quiet_line_own z t y f c f_is second from to c_is t_is passed = record {
+  first_is = own_byte f.byte 47 f_is refl;
+  rest_are = passed_on is_own_byte z t y (next_one is_own_byte z t c second from to (own_byte c.byte 47 c_is refl) t_is) (bytes_as is_quiet_comment is_own_byte t y line_own_byte passed);
 }

@@ -4,7 +4,7 @@ ghost use Rattle.std.specs.Prelude.{◌≡◌, ◌==◌, ◌≤◌, ◌+◌, ◌
 ghost use Rattle.std.specs.Prelude.{IsFalse, MatchOption};
 ghost use Rattle.c_chars.specs.Characters.{bytes_of};
 ghost use Rattle.c_chars.specs.Coming.{behind};
-ghost use Rattle.item_kinds.specs.declared.ItemKind.TheVariants.{BlockComment};
+ghost use Rattle.item_kinds.specs.declared.ItemKind.TheVariants.{BlockComment, LineComment};
 ghost use Rattle.c_lexer.specs.Cut.{IsCutOff};
 ghost use Rattle.c_lexer.specs.Reading.{AreOwnBytes, IsBegun};
 ghost use Rattle.c_lexer.specs.Comment.{closes_block, block_len, line_len};
@@ -105,6 +105,29 @@ pub(crate) fn cut_plain_block<'s>(begun: &Begun<'s>, second: LogicalChar) -> Opt
     let star = left.next_plain()?;
     let slash = left.next_plain()?;
     if star.byte == b'*' && slash.byte == b'/' {
+        Some(left)
+    } else {
+        None
+    }
+}
+
+/// What stands behind the line comment that is begun, where it has only printable bytes that tell nothing else and a
+/// plain new-line stands behind the last that is no space; none elsewhere. `second` is the character behind its first.
+#[inline(always)]
+pub(crate) fn cut_plain_line<'s>(begun: &Begun<'s>, second: LogicalChar) -> Option<Chars<'s>>
+    requires begun { IsBegun begun.now.text begun.now.first begun.now.behind }
+    requires second { slice_get begun.now.behind.chars 0 ≡ Some second }
+    requires plain { (second.from ≡ begun.now.behind.at) × (second.to ≡ begun.now.behind.at + 1) }
+    ensures off { IfSome result (λ left. IsCutOff begun.now.text left LineComment) }
+    ensures plain { IfSome result (λ left. AreOwnBytes begun.now.first begun.now.behind left) }
+{
+    if begun.first.byte != b'/' || second.byte != b'/' {
+        return None;
+    }
+    let mut left = front::behind(&begun.behind, 1);
+    left.pass_quiet_words();
+    let end = left.peek_plain()?;
+    if bytes::is_new_line(end.byte) {
         Some(left)
     } else {
         None

@@ -146,8 +146,7 @@ fn cut_plain_shift<'s>(
     }
 }
 
-/// The block comment of quiet bytes that is begun, whose second byte is this one, and what stands behind it; none
-/// elsewhere.
+/// The comment of quiet bytes that is begun, whose second byte is this one, and what stands behind it; none elsewhere.
 #[inline(always)]
 fn cut_plain_comment<'s>(begun: &Begun<'s>, second: LogicalChar) -> Option<(ItemKind, Chars<'s>)>
     requires begun { IsBegun begun.now.text begun.now.first begun.now.behind }
@@ -156,6 +155,12 @@ fn cut_plain_comment<'s>(begun: &Begun<'s>, second: LogicalChar) -> Option<(Item
     ensures off { IfSome result (λ r. IsCutOff begun.now.text r.1 r.0) }
     ensures plain { IfSome result (λ r. AreOwnBytes begun.now.first begun.now.behind r.1) }
 {
+    if second.byte == b'/' {
+        return match comment::cut_plain_line(begun, second) {
+            Some(left) => Some((ItemKind::LineComment, left)),
+            None => None,
+        };
+    }
     match comment::cut_plain_block(begun, second) {
         Some(left) => Some((ItemKind::BlockComment, left)),
         None => None,
@@ -198,7 +203,7 @@ fn cut_plain_mark<'s>(dialect: Dialect, begun: &Begun<'s>) -> Option<(ItemKind, 
 }
 
 /// The item that is begun, where it is a word, a number or a punctuator of plain bytes and one behind it ends it, or a
-/// literal or a block comment of printable bytes that tell nothing else; none elsewhere.
+/// literal or a comment of printable bytes that tell nothing else; none elsewhere.
 #[inline(always)]
 pub(crate) fn cut_plain<'s>(dialect: Dialect, begun: &Begun<'s>) -> Option<(ItemKind, Chars<'s>)>
     requires dialect { dialect ≡ begun.now.text.dialect }

@@ -183,10 +183,10 @@ impl<'s> Lexer<'s> {
         }
     }
 
-    /// The next item, with what it and its gap tell, where it is a word, a number, a punctuator, a literal or a block
-    /// comment that plain bytes tell at once, each of them a printable character of ASCII that nothing behind it can
-    /// change; none elsewhere, where the reader stays. It calls nothing but what tells the name of a directive, and how
-    /// far a literal, a comment or a long word reaches.
+    /// The next item, with what it and its gap tell, where it is a word, a number, a punctuator, a literal or a comment
+    /// that plain bytes tell at once, each of them a printable character of ASCII that nothing behind it can change;
+    /// none elsewhere, where the reader stays. It calls nothing but what tells the name of a directive, and how far a
+    /// literal, a comment or a long word reaches.
     #[inline(always)]
     pub fn next_plain_lexeme(&mut self) -> Option<Lexeme<'s>>
         ensures text { self.new.text ≡ self.old.text }

@@ -3,7 +3,7 @@ use Rattle.std.specs.Prelude.{Some}
 use Rattle.item_kinds.specs.declared.ItemKind.{ItemKind}
 use Rattle.item_kinds.specs.declared.ItemKind.TheVariants.{CharConst, Number, StringLit}
 use Rattle.c_grammar.specs.Place.{place_of}
-use Rattle.c_grammar.proofs.Places.{IsToldPlace, is_plain, told_comment, told_mark, told_other, told_word}
+use Rattle.c_grammar.proofs.Places.{IsToldPlace, is_plain, told_comment, told_line, told_mark, told_other, told_word}
 use Rattle.c_grammar.proofs.place.past_plain.Goals as goal
 
 pub returns-in-Identifier : goal.returns-in-Identifier
@@ -27,6 +27,11 @@ returns-in-Number c =
     ]
 
 pub returns-in-BlockComment : goal.returns-in-BlockComment
-returns-in-BlockComment c =
-    subst (λ k. IsToldPlace c.args.dialect (place_of c.args.standing) k c.args.first (Some c.past_comment.result)) (sym c.in-BlockComment.is)
-    (told_comment c.args.dialect (place_of c.args.standing) c.args.first c.past_comment.result c.past_comment.ensures)
+returns-in-BlockComment c = elim c.in-BlockComment.is [
+  | inl e ↦
+      subst (λ k. IsToldPlace c.args.dialect (place_of c.args.standing) k c.args.first (Some c.past_comment.result)) (sym e)
+      (told_comment c.args.dialect (place_of c.args.standing) c.args.first c.past_comment.result c.past_comment.ensures)
+  | inr e ↦
+      subst (λ k. IsToldPlace c.args.dialect (place_of c.args.standing) k c.args.first (Some c.past_comment.result)) (sym e)
+      (told_line c.args.dialect (place_of c.args.standing) c.args.first c.past_comment.result c.past_comment.ensures)
+]
