@@ -1,5 +1,5 @@
 -- What entries keep of the items of their text.
-use Rattle.std.proofs.Common.{◌≡◌, ◌==◌, ◌∙◌, ℕ, zero, suc, ◌+◌, ◌-◌, ◌<◌, ◌≤◌, Bool, true, false, List, [], ◌∷◌, length, take, drop, get_or, refl, ap, arith, count_by, Some, slice_get}
+use Rattle.std.proofs.Common.{◌≡◌, ◌==◌, ◌||◌, ◌∙◌, not, ℕ, zero, suc, ◌+◌, ◌-◌, ◌<◌, ◌≤◌, Bool, true, false, List, [], ◌∷◌, length, take, drop, get_or, refl, ap, arith, count_by, Some, slice_get}
 use Rattle.std.proofs.lemmas.Bool.{ne_eqb}
 use Rattle.std.proofs.lemmas.List.{length-drop, length-take-le}
 use Rattle.std.proofs.lemmas.Option.{get_or_from_slice_get}
@@ -87,3 +87,12 @@ kept_at text entries place d raw before gap back within raw_is before_is gap_is 
 pub kept_there : (text : List ℕ) (entries : List Entry) (place : ℕ) (d : Entry) (token : Stored) → place < length entries
     → get_or (kept_by_all text entries) place token ≡ kept_by text (place == 0) (get_or entries place d)
 kept_there text entries place d token within = get_or_from_slice_get (kept_by_all text entries) place (kept_by text (place == 0) (get_or entries place d)) token (any_at text entries place d within)
+
+-- a line begins before an item whose entry has lines before it
+pub begun_there : (text : List ℕ) (entries : List Entry) (place : ℕ) (d : Entry) (token : Stored) → place < length entries → ((get_or entries place d).lines ≡ 0 → ⊥)
+    → (get_or (kept_by_all text entries) place token).gap.began ≡ true
+begun_there text entries place d token within some = ap (λ (t : Stored). t.gap.began) (kept_there text entries place d token within) ∙ choice (place == 0) (get_or entries place d).lines some
+  where
+    choice : (is_first : Bool) (lines : ℕ) → (lines ≡ 0 → ⊥) → (is_first || not (lines == 0)) ≡ true
+    choice true lines some = refl
+    choice false lines some = ap not (ne_eqb lines 0 some)

@@ -11,6 +11,7 @@ use Rattle.c_grammar.specs.Text.{ReadItem, Left, IsStep, IsReadUpTo, start_of, e
 use Rattle.c_grammar.proofs.Reading.{begun, stepped, ended}
 use Rattle.token_arena.specs.Stored.{Stored, stored_of, stored_from, stored_items}
 use Rattle.token_arena.specs.Gaps.{Stands, StandFrom, behind}
+use Rattle.token_arena.specs.Hashes.{hashes_from}
 use Rattle.token_arena.specs.Entries.{kept_by, kept_from, kept_by_all, AllWithin, AreEntries, ArePlain, IsPlain, comments_kept}
 use Rattle.token_arena.specs.declared.arena.Entry.{Entry}
 use Rattle.c_chars.proofs.Spans.{Ascend, chars_ascend}
@@ -52,7 +53,7 @@ kept_from-push : (text : List ℕ) (entries : List Entry) (entry : Entry) → ke
 kept_from-push text [] entry = refl
 kept_from-push text (e ∷ entries) entry = ap (λ s. kept_by text false e ∷ s) (kept_from-push text entries entry)
 
-kept_by_all-push : (text : List ℕ) (entries : List Entry) (entry : Entry)
+pub kept_by_all-push : (text : List ℕ) (entries : List Entry) (entry : Entry)
     → kept_by_all text (entries ++ entry ∷ []) ≡ kept_by_all text entries ++ kept_by text (length entries == 0) entry ∷ []
 kept_by_all-push text [] entry = refl
 kept_by_all-push text (e ∷ entries) entry =
@@ -182,10 +183,11 @@ kept_step d text old new entries entry at at2 read before step span told room pl
       plain = All-append (IsPlain text) entries (entry ∷ []) before.plain (λ k other below. let first : k ≡ 0 = omega arith in rw first plain);
     }
 
-pub kept_ended : (d : Dialect) (text : List ℕ) (left : Left) (entries : List Entry) (comments : List ℕ) (at : ℕ) → length text ≤ LIMIT → IsKeptUpTo d text left entries at
-    → is_gap (bytes_of left.chars) ≡ true → comments ≡ comments_kept 0 entries → AreEntries text d entries comments
-kept_ended d text left entries comments at fits all gap remarks = record {
+pub kept_ended : (d : Dialect) (text : List ℕ) (left : Left) (entries : List Entry) (comments hashes : List ℕ) (at : ℕ) → length text ≤ LIMIT → IsKeptUpTo d text left entries at
+    → is_gap (bytes_of left.chars) ≡ true → comments ≡ comments_kept 0 entries → hashes ≡ hashes_from 0 (kept_by_all text entries) → AreEntries text d entries comments hashes
+kept_ended d text left entries comments hashes at fits all gap remarks marks = record {
   comments_are = remarks;
+  hashes_are = marks;
   within = all.within;
   plain = all.plain;
   sound = record {

@@ -20,3 +20,4 @@ pub mod Ranges
 pub mod Spellings
 pub mod Standings
 pub mod Whole
+pub mod Hashes

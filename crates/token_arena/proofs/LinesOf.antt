@@ -68,16 +68,16 @@ joins from at end [] = refl
 joins from at end (Text f e ∷ rest) = refl
 joins from at end (Dir dir ∷ rest) = refl
 
-cases_le : (a b : ℕ) → a ≤ b → (a ≡ b) ⊎ (a < b)
+pub cases_le : (a b : ℕ) → a ≤ b → (a ≡ b) ⊎ (a < b)
 cases_le a b h = grind arith
 
-with_some : (a b : ℕ) (rest : List Section) → a < b → with_text a b rest ≡ text_before a b rest
+pub with_some : (a b : ℕ) (rest : List Section) → a < b → with_text a b rest ≡ text_before a b rest
 with_some a b rest h = grind arith
 
 with_none : (a : ℕ) (rest : List Section) → with_text a a rest ≡ rest
 with_none a rest = grind arith
 
-more_text : (from at end : ℕ) (rest : List Section) → at < end → (from ≡ at) ⊎ (from < at) → with_text from at (text_before at end rest) ≡ with_text from end rest
+pub more_text : (from at end : ℕ) (rest : List Section) → at < end → (from ≡ at) ⊎ (from < at) → with_text from at (text_before at end rest) ≡ with_text from end rest
 more_text from at end rest h (inl e) =
     rw (e, with_none at (text_before at end rest), with_some at end rest h) refl
 more_text from at end rest h (inr less) =

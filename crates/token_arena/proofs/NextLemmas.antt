@@ -14,11 +14,14 @@ use Rattle.c_lexer.specs.declared.fault.LexFault.TheVariants.{UnterminatedCommen
 use Rattle.c_lexer.specs.declared.item.Lexeme.{Lexeme}
 use Rattle.token_arena.specs.Stored.{Stored, stored_of}
 use Rattle.token_arena.specs.Entries.{kept_by, kept_by_all, entry_of, IsPlain, IsSpelled, IsTold}
+use Rattle.token_arena.specs.Hashes.{hashes_from, is_likely_hash, may_be_hash}
 use Rattle.token_arena.specs.declared.arena.Entry.{Entry}
 use Rattle.token_arena.specs.declared.facts.Told.{Told}
 use Rattle.token_arena.proofs.EntryLemmas.{length_kept}
 use Rattle.token_arena.proofs.GapLemmas.{few}
-use Rattle.token_arena.proofs.KeptLemmas.{IsKeptUpTo, kept_step}
+use Rattle.token_arena.proofs.Hashes.{hash_pushed}
+use Rattle.token_arena.proofs.KeptLemmas.{IsKeptUpTo, kept_by_all-push, kept_step}
+use Rattle.token_arena.proofs.Remarks.{remark_of}
 use Rattle.token_arena.proofs.Spans.{IsSpanned, spanned_step, step_shorter}
 use Rattle.token_arena.proofs.StepLemmas.{length-raw, entry_told, spelled_told}
 
@@ -83,6 +86,27 @@ next_kept_behind d text old new entries lexeme text_is dialect_is before next be
     let stop : entry.start + entry.len ≡ new.at = ap (λ (e : Entry). e.start + e.len) same ∙ sym behind in
     subst (λ k. IsKeptUpTo d text new.left (entries ++ entry ∷ []) k) stop
     (next_kept d text old new entries old.at lexeme text_is dialect_is before next told holds entry same)
+
+-- its bytes are those of the text that its entry names
+next_raw : (d : Dialect) (text : List ℕ) (old new : Reading) (entries : List Entry) (at : ℕ) (lexeme : Lexeme)
+    → old.text ≡ text → IsKeptUpTo d text old.left entries at → IsNextLexeme old new lexeme → take (length lexeme.item.raw.now) (drop lexeme.item.start text) ≡ lexeme.item.raw.now
+next_raw d text old new entries at lexeme text_is before next =
+    let span : IsSpanned at (length text) next.next.read new.left.chars = span_of d text old new entries at lexeme before next in
+    ap (λ (t : Stored). t.raw) (entry_told text at (length entries == 0) Told.Nothing old new lexeme new.left.chars text_is next span)
+    ∙ sym (next.next.raw_is ∙ ap (λ t. raw_of t next.next.read) text_is)
+
+-- its number is noted where it may be a `#`
+pub hash_noted : (d : Dialect) (text : List ℕ) (old new : Reading) (entries : List Entry) (lexeme : Lexeme)
+    → old.text ≡ text → IsKeptUpTo d text old.left entries old.at → IsNextLexeme old new lexeme
+    → (told : Told) (gap : ℕ) (entry : Entry) → entry ≡ entry_of lexeme gap told
+    → (hashes more : List ℕ) (id : ℕ) → hashes ≡ hashes_from 0 (kept_by_all text entries) → id ≡ length entries → more ≡ hashes ++ remark_of id (may_be_hash lexeme.item.kind lexeme.item.raw.now)
+    → more ≡ hashes_from 0 (kept_by_all text (entries ++ entry ∷ []))
+hash_noted d text old new entries lexeme text_is kept next told gap entry entry_is hashes more id before id_is more_is =
+    let raw = next_raw d text old new entries old.at lexeme text_is kept next in
+    let likely : may_be_hash lexeme.item.kind lexeme.item.raw.now ≡ is_likely_hash (kept_by text (length entries == 0) entry) =
+    sym (ap (λ (e : Entry). may_be_hash e.kind (take e.len (drop e.start text))) entry_is ∙ ap (may_be_hash lexeme.item.kind) raw) in
+    hash_pushed (kept_by_all text entries) (kept_by_all text (entries ++ entry ∷ [])) (kept_by text (length entries == 0) entry) hashes more id (may_be_hash lexeme.item.kind lexeme.item.raw.now)
+    (kept_by_all-push text entries entry) before (id_is ∙ sym (length_kept text entries)) likely more_is
 
 ascend_within : (at stop : ℕ) (s : List LogicalChar) → Ascend at stop s → at ≤ stop
 ascend_within at stop [] up = up

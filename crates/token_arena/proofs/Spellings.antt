@@ -56,7 +56,7 @@ pub begins : (word s left : List ℕ) → s ≡ word ++ left → true ≡ is_fro
 begins word s left e = rw e (sym (front_of word left))
 
 -- a plain byte is a character
-plain_alone : (d : Dialect) (b : ℕ) (bytes : List ℕ) → is_plain b ≡ true → read_alone d (b ∷ bytes) ≡ b ∷ read_alone d bytes
+pub plain_alone : (d : Dialect) (b : ℕ) (bytes : List ℕ) → is_plain b ≡ true → read_alone d (b ∷ bytes) ≡ b ∷ read_alone d bytes
 plain_alone d b bytes plain =
     let first = and_parts (not (b == 63)) (not (b == 13) && not (b == 92)) plain in
     let second = and_parts (not (b == 13)) (not (b == 92)) first.1 in

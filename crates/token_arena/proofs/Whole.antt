@@ -13,7 +13,7 @@ use Rattle.token_arena.specs.Sections.{before_lines, lines_of, behind_first, beh
 use Rattle.token_arena.proofs.Codes.{codes_within}
 
 -- no line is empty, and together they have so many items
-abbrev AreLines : ℕ → List (List Stored) → Type 0
+abbrev pub AreLines : ℕ → List (List Stored) → Type 0
 AreLines n [] = n ≡ 0
 AreLines n (line ∷ lines) = (0 < length line) × (length line ≤ n) × AreLines (n - length line) lines
 
@@ -32,7 +32,7 @@ are_lines_with x [] lines h = (omega arith, omega arith, omega arith)
 are_lines_with x (y ∷ xs) [] h = absurd (omega (arith, h))
 are_lines_with x (y ∷ xs) (line ∷ lines) h = lines_choice y.gap.began x line lines (length (y ∷ xs)) h
 
-are_lines : (xs : List Stored) → AreLines (length xs) (lines_of xs)
+pub are_lines : (xs : List Stored) → AreLines (length xs) (lines_of xs)
 are_lines [] = refl
 are_lines (x ∷ xs) = are_lines_with x xs (lines_of xs) (are_lines xs)
 

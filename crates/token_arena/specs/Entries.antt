@@ -4,6 +4,7 @@ use Rattle.std.specs.Prelude.{◌≡◌, drop, count_by, IsTrue, if◌then◌els
 use Rattle.std.specs.Int.{is_in_range}
 use Rattle.std.specs.List.{list_all}
 use Rattle.token_arena.specs.Gaps.{Contents}
+use Rattle.token_arena.specs.Hashes.{hashes_from}
 use Rattle.token_arena.specs.Holds.{IsSound}
 use Rattle.c_chars.specs.Characters.{is_plain}
 use Rattle.c_chars.specs.declared.Dialect.{Dialect}
@@ -137,12 +138,13 @@ comments_kept at [] = []
 comments_kept at (entry ∷ entries) =
     if keeps_comment entry then at ∷ comments_kept (at + 1) entries else comments_kept (at + 1) entries
 
--- these entries are an arena of this text, and these numbers are those of the comments
-pub record AreEntries (text : List ℕ) (dialect : Dialect) (entries : List Entry) (comments : List ℕ) : Type 0 where
+-- these entries are an arena of this text, and these numbers are those of the comments, and of what may be a `#`
+pub record AreEntries (text : List ℕ) (dialect : Dialect) (entries : List Entry) (comments hashes : List ℕ) : Type 0 where
   pub within : AllWithin text entries
   pub plain : ArePlain text entries
   pub sound : IsSound (contents_of text dialect entries)
   pub comments_are : comments ≡ comments_kept 0 entries
+  pub hashes_are : hashes ≡ hashes_from 0 (kept_by_all text entries)
 
 -- the entry of this item, of whose bytes this is told, behind a gap that begins at this offset: a spliced line end is
 -- in no character

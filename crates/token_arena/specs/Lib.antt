@@ -1,5 +1,6 @@
 pub mod Stored
 pub mod Comments
+pub mod Hashes
 pub mod Gaps
 pub mod Holds
 pub mod Entries

@@ -6,6 +6,7 @@ ghost use Rattle.std.specs.List.{list_all, position_or_len, slice_range};
 ghost use Rattle.c_chars.specs.Characters.{is_plain, mark_len};
 ghost use Rattle.c_chars.specs.declared.TheConstants.{LIMIT};
 ghost use Rattle.token_arena.specs.Comments.{comments_from};
+ghost use Rattle.token_arena.specs.Hashes.{hashes_from};
 ghost use Rattle.token_arena.specs.Gaps.{gap_of, gap_start, gap_end, joined, StandFrom};
 ghost use Rattle.token_arena.specs.Holds.{HoldsItems};
 ghost use Rattle.token_arena.specs.Entries.{told_by, AreEntries, contents_of, gap_kept, is_back, is_itself};
@@ -151,6 +152,7 @@ pub struct TokenArena<'a, 's> {
     dialect: Dialect,
     entries: &'a [Entry],
     comments: &'a [u32],
+    hashes: &'a [u32],
 }
 
 impl<'a, 's> Model for TokenArena<'a, 's> {
@@ -161,18 +163,19 @@ impl<'a, 's> Model for TokenArena<'a, 's> {
 
     ghost view = { λ a. contents_of a.text.now a.dialect a.entries.now };
 
-    ghost invariant = { λ a. AreEntries a.text.now a.dialect a.entries.now a.comments.now };
+    ghost invariant = { λ a. AreEntries a.text.now a.dialect a.entries.now a.comments.now a.hashes.now };
 }
 
 impl<'a, 's> TokenArena<'a, 's> {
-    /// An arena of these entries of a text, of which those with these numbers are comments.
+    /// An arena of these entries of a text, of which those with these numbers are comments, or may be a `#`.
     pub(crate) fn of(
         text: &'s [u8],
         dialect: Dialect,
         entries: &'a [Entry],
         comments: &'a [u32],
+        hashes: &'a [u32],
     ) -> TokenArena<'a, 's>
-        requires { AreEntries text.now dialect entries.now comments.now }
+        requires { AreEntries text.now dialect entries.now comments.now hashes.now }
         ensures { result ≡ contents_of text.now dialect entries.now }
     {
         TokenArena {
@@ -180,6 +183,7 @@ impl<'a, 's> TokenArena<'a, 's> {
             dialect,
             entries,
             comments,
+            hashes,
         }
     }
 
@@ -254,6 +258,24 @@ impl<'a, 's> TokenArena<'a, 's> {
         is_itself(self.entries[id.0 as usize].spelled)
     }
 
+    /// Where the line of this item begins, no item before the one of the first number.
+    #[inline(always)]
+    #[tactic(auto, using(crate::proofs::EntryLemmas::length_kept))]
+    pub(crate) fn line_start(&self, from: u32, at: u32) -> u32
+        requires order { from ≤ at }
+        requires within { at < length self.now.tokens }
+        ensures from { from ≤ result }
+        ensures most { result ≤ at }
+        ensures begins { (no_token : Stored) → from < result →
+            IsTrue (get_or self.now.tokens result no_token).gap.began }
+    {
+        let mut start = at;
+        while start > from && self.entries[start as usize].lines == 0 {
+            start -= 1;
+        }
+        start
+    }
+
     /// The first item behind the line that begins with this one.
     #[inline(always)]
     pub(crate) fn line_end(&self, at: u32) -> u32
@@ -273,6 +295,14 @@ impl<'a, 's> TokenArena<'a, 's> {
         ensures { result.now ≡ comments_from 0 self.now.tokens }
     {
         self.comments
+    }
+
+    /// The numbers of the items that may be a `#`, in order.
+    #[inline(always)]
+    pub(crate) fn hashes(&self) -> &'a [u32]
+        ensures { result.now ≡ hashes_from 0 self.now.tokens }
+    {
+        self.hashes
     }
 
     /// The bytes before the item with this number, or after the last item. The mark is in no gap.

@@ -5,6 +5,7 @@ ghost use Rattle.c_grammar.specs.Fitting.{is_comment};
 ghost use Rattle.c_chars.specs.declared.TheConstants.{LIMIT};
 ghost use Rattle.token_arena.specs.Building.{IsArenaOf, IsCause};
 ghost use Rattle.token_arena.specs.Entries.{AreEntries};
+ghost use Rattle.token_arena.specs.Hashes.{may_be_hash};
 ghost use Rattle.token_arena.specs.declared.fault.ArenaFault.TheVariants.{NoMemory};
 
 use crate::arena::{Entry, TokenArena};
@@ -29,27 +30,65 @@ fn note_comment(comments: &mut Vec<u32, &Bump>, kind: ItemKind, id: usize) -> Re
     Ok(())
 }
 
-/// The entries of the items of a text, and the numbers of the comments among them.
+/// Whether an item of this kind and these bytes may be a `#`, by the first of them.
+#[tactic(auto, unfolding(crate::specs::Hashes::may_spell_hash))]
+#[inline(always)]
+fn may_be_hash(kind: ItemKind, raw: &[u8]) -> bool
+    ensures { result ≡ may_be_hash kind raw.now }
+{
+    if !matches!(kind, ItemKind::Punct) {
+        return false;
+    }
+    match raw {
+        [first, ..] => *first <= b'%' || *first == b'?' || *first == b'\\',
+        _ => true,
+    }
+}
+
+/// Notes the number of an item of this kind and these bytes, where it may be a `#`.
+#[inline(always)]
+fn note_hash(
+    hashes: &mut Vec<u32, &Bump>,
+    kind: ItemKind,
+    raw: &[u8],
+    id: usize,
+) -> Result<(), ArenaFault>
+    requires { id < 2 ^ 32 }
+    ensures ok { IfOk result
+        (λ _. hashes.new.items ≡ hashes.old.items ++ (if may_be_hash kind raw.now then id ∷ [] else [])) }
+    ensures err { IfErr result (λ fault. fault ≡ NoMemory) }
+{
+    if may_be_hash(kind, raw) {
+        hashes.push(id as u32)?;
+    }
+    Ok(())
+}
+
+/// The entries of the items of a text, and the numbers of those among them that are comments or may be a `#`.
 #[derive(Clone, Copy)]
 struct Kept<'a> {
     entries: &'a [Entry],
     comments: &'a [u32],
+    hashes: &'a [u32],
 }
 
 /// What is kept of all items of a text.
 fn entries_of<'a>(bump: &'a Bump, text: &[u8], dialect: Dialect) -> Result<Kept<'a>, ArenaFault>
     requires fits { length text.now ≤ LIMIT }
-    ensures entries { IfOk result (λ kept. AreEntries text.now dialect kept.entries.now kept.comments.now) }
+    ensures entries { IfOk result (λ kept. AreEntries text.now dialect kept.entries.now kept.comments.now kept.hashes.now) }
     ensures fault { IfErr result (IsCause dialect text.now) }
 {
     // Few texts have more items than this, and memory that holds none is never touched.
     let mut entries = Vec::with_capacity(bump, text.len() / 2)?;
     let mut comments = Vec::new(bump);
+    let mut hashes = Vec::new(bump);
     let mut lexer = Lexer::new(text, dialect);
     loop {
         let gap = lexer.at() as u32;
         if let Some(lexeme) = lexer.next_plain_lexeme() {
-            note_comment(&mut comments, lexeme.item.kind, entries.len())?;
+            let id = entries.len();
+            note_comment(&mut comments, lexeme.item.kind, id)?;
+            note_hash(&mut hashes, lexeme.item.kind, lexeme.item.raw, id)?;
             entries.push(entry_of(&lexeme, gap, Told::Itself))?;
             continue;
         }
@@ -57,7 +96,9 @@ fn entries_of<'a>(bump: &'a Bump, text: &[u8], dialect: Dialect) -> Result<Kept<
         let mut other = lexer.ahead();
         match other.next_any() {
             Ok(Some(lexeme)) => {
-                note_comment(&mut comments, lexeme.item.kind, entries.len())?;
+                let id = entries.len();
+                note_comment(&mut comments, lexeme.item.kind, id)?;
+                note_hash(&mut hashes, lexeme.item.kind, lexeme.item.raw, id)?;
                 entries.push(entry_of(&lexeme, gap, told_by_bytes(lexeme.item.raw)))?;
                 lexer = other;
             }
@@ -65,6 +106,7 @@ fn entries_of<'a>(bump: &'a Bump, text: &[u8], dialect: Dialect) -> Result<Kept<
                 return Ok(Kept {
                     entries: into_bump_slice(entries),
                     comments: into_bump_slice(comments),
+                    hashes: into_bump_slice(hashes),
                 });
             }
             Err(LexFault::UnterminatedComment { start }) => {
@@ -89,5 +131,5 @@ pub fn build<'a, 's>(
         });
     }
     let kept = entries_of(bump, text, dialect)?;
-    Ok(TokenArena::of(text, dialect, kept.entries, kept.comments))
+    Ok(TokenArena::of(text, dialect, kept.entries, kept.comments, kept.hashes))
 }

@@ -31,7 +31,7 @@ fn directive_in(arena: &TokenArena<'_, '_>, first: u32, end: u32) -> Option<Dire
     })
 }
 
-/// The sections, line by line; text lines that follow one another are joined.
+/// The sections; text lines that follow one another are joined. Only lines are looked at that have what may be a `#`.
 fn cut_lines<'a>(arena: &TokenArena<'_, '_>, bump: &'a Bump) -> Result<&'a [Section], NoMemory>
     ensures { IfOk result (λ sections. sections.now ≡ sections_of arena.now) }
 {
@@ -39,19 +39,24 @@ fn cut_lines<'a>(arena: &TokenArena<'_, '_>, bump: &'a Bump) -> Result<&'a [Sect
     let mut done = Vec::new(bump);
     let mut from = 0;
     let mut at = 0;
-    while at < count {
-        let end = arena.line_end(at);
-        if let Some(directive) = directive_in(arena, at, end) {
-            if from < at {
+    let mut hashes = arena.hashes();
+    while let [hash, behind @ ..] = hashes {
+        if *hash < at {
+            hashes = behind;
+            continue;
+        }
+        let start = arena.line_start(at, *hash);
+        at = arena.line_end(start);
+        if let Some(directive) = directive_in(arena, start, at) {
+            if from < start {
                 done.push(Section::Text {
                     first: from,
-                    end: at,
+                    end: start,
                 })?;
             }
             done.push(Section::Dir(directive))?;
-            from = end;
+            from = at;
         }
-        at = end;
     }
     if from < count {
         done.push(Section::Text {

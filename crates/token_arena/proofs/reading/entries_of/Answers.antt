@@ -3,9 +3,10 @@ use Rattle.c_chars.specs.Characters.{mark_len}
 use Rattle.c_lexer.specs.Reading.{Reading}
 use Rattle.token_arena.specs.declared.facts.Told.{Told}
 use Rattle.token_arena.proofs.KeptLemmas.{IsKeptUpTo, kept_begun, kept_ended}
-use Rattle.token_arena.proofs.NextLemmas.{next_behind, next_kept_behind, few_kept, kept_within, at_some, at_none}
+use Rattle.token_arena.proofs.NextLemmas.{hash_noted, next_behind, next_kept_behind, few_kept, kept_within, at_some, at_none}
 use Rattle.token_arena.proofs.Remarks.{remark_pushed}
-use Rattle.token_arena.specs.Entries.{comments_kept, keeps_comment}
+use Rattle.token_arena.specs.Entries.{comments_kept, keeps_comment, kept_by_all}
+use Rattle.token_arena.specs.Hashes.{hashes_from}
 use Rattle.c_grammar.specs.Fitting.{is_comment}
 use Rattle.token_arena.proofs.Spans.{step_shorter}
 use Rattle.token_arena.proofs.reading.entries_of.Goals as goal
@@ -19,12 +20,18 @@ loop-lexeme-init c = record {
       (subst (λ left. IsKeptUpTo c.args.dialect c.args.text.now left c.in_ok-entries.entries.items (mark_len c.args.text.now)) (sym c.new-lexer.ensures.left)
       (rw c.in_ok-entries.ensures.items (kept_begun c.args.dialect c.args.text.now)));
   remarks = c.new-comments.ensures.items ∙ sym (ap (comments_kept 0) c.in_ok-entries.ensures.items);
+  marks = c.new-hashes.ensures.items ∙ sym (ap (λ es. hashes_from 0 (kept_by_all c.args.text.now es)) c.in_ok-entries.ensures.items);
 }
 
 pub note_comment-requires : goal.note_comment-requires
 note_comment-requires c =
     let few = few_kept _ _ _ _ _ c.loop-lexeme.invariant.kept in
-    omega (arith, few, c.requires.fits, c.len.ensures)
+    omega (arith, few, c.requires.fits, c.len-id.ensures)
+
+pub note_hash-requires : goal.note_hash-requires
+note_hash-requires c =
+    let few = few_kept _ _ _ _ _ c.loop-lexeme.invariant.kept in
+    omega (arith, few, c.requires.fits, c.len-id.ensures)
 
 -- an item that plain bytes tell
 
@@ -42,7 +49,7 @@ loop-lexeme-smaller-in-Some c = (step_shorter _ _ _ _ c.in-Some.ensures.some.nex
 
 pub loop-lexeme-preserved-in-Some : goal.loop-lexeme-preserved-in-Some
 loop-lexeme-preserved-in-Some c =
-    let count : c.len.result ≡ length c.loop-lexeme.entries.items = omega (arith, c.len.ensures) in
+    let count : c.len-id.result ≡ length c.loop-lexeme.entries.items = omega (arith, c.len-id.ensures) in
     let within = kept_within c.args.dialect c.args.text.now c.loop-lexeme.lexer.left c.loop-lexeme.entries.items c.loop-lexeme.lexer.at c.loop-lexeme.invariant.kept in
     record {
       text_stays = c.in-Some.ensures.text ∙ c.loop-lexeme.invariant.text_stays;
@@ -53,15 +60,24 @@ loop-lexeme-preserved-in-Some c =
           (omega (arith, within, c.requires.fits, c.at-gap.ensures)) _ c.entry_of.ensures);
       remarks =
           rw c.in_ok-push.ensures.items
-          (remark_pushed c.loop-lexeme.entries.items c.entry_of.result c.loop-lexeme.comments.items c.note_comment.new.comments.items c.len.result (is_comment c.in-Some.lexeme.item.kind) c.loop-lexeme.invariant.remarks count (sym (ap keeps_comment c.entry_of.ensures)) c.in_ok-note_comment.ensures.ok);
+          (remark_pushed c.loop-lexeme.entries.items c.entry_of.result c.loop-lexeme.comments.items c.note_comment.new.comments.items c.len-id.result (is_comment c.in-Some.lexeme.item.kind) c.loop-lexeme.invariant.remarks count (sym (ap keeps_comment c.entry_of.ensures)) c.in_ok-note_comment.ensures.ok);
+      marks =
+          rw c.in_ok-push.ensures.items
+          (hash_noted _ _ _ _ c.loop-lexeme.entries.items c.in-Some.lexeme c.loop-lexeme.invariant.text_stays c.loop-lexeme.invariant.kept c.in-Some.ensures.some Told.Itself c.at-gap.result c.entry_of.result c.entry_of.ensures
+          c.loop-lexeme.hashes.items c.note_hash.new.hashes.items c.len-id.result c.loop-lexeme.invariant.marks count c.in_ok-note_hash.ensures.ok);
     }
 
 -- any other item: the reader stands where it stood
 
+pub note_hash-requires-in-Ok-Some : goal.note_hash-requires-in-Ok-Some
+note_hash-requires-in-Ok-Some c =
+    let few = few_kept _ _ _ _ _ c.loop-lexeme.invariant.kept in
+    omega (arith, few, c.requires.fits, c.len-id-in-Ok-Some.ensures)
+
 pub note_comment-requires-in-Ok-Some : goal.note_comment-requires-in-Ok-Some
 note_comment-requires-in-Ok-Some c =
     let few = few_kept _ _ _ _ _ c.loop-lexeme.invariant.kept in
-    omega (arith, few, c.requires.fits, c.len-in-Ok-Some.ensures)
+    omega (arith, few, c.requires.fits, c.len-id-in-Ok-Some.ensures)
 
 pub entry_of-requires-in-Ok-Some-clause-fits : goal.entry_of-requires-in-Ok-Some-clause-fits
 entry_of-requires-in-Ok-Some-clause-fits c =
@@ -89,7 +105,7 @@ loop-lexeme-smaller c =
 
 pub loop-lexeme-preserved : goal.loop-lexeme-preserved
 loop-lexeme-preserved c =
-    let count : c.len-in-Ok-Some.result ≡ length c.loop-lexeme.entries.items = omega (arith, c.len-in-Ok-Some.ensures) in
+    let count : c.len-id-in-Ok-Some.result ≡ length c.loop-lexeme.entries.items = omega (arith, c.len-id-in-Ok-Some.ensures) in
     let same = c.ahead-other.ensures ∙ c.in_default.ensures.none in
     let text_is = ap (λ (r : Reading). r.text) same ∙ c.loop-lexeme.invariant.text_stays in
     let dialect_is = ap (λ (r : Reading). r.dialect) same ∙ c.loop-lexeme.invariant.dialect_stays in
@@ -106,7 +122,11 @@ loop-lexeme-preserved c =
           (omega (arith, at_is, within, c.requires.fits, c.at-gap.ensures)) _ c.entry_of-in-Ok-Some.ensures);
       remarks =
           rw c.in_ok-push-in-Ok-Some.ensures.items
-          (remark_pushed c.loop-lexeme.entries.items c.entry_of-in-Ok-Some.result c.loop-lexeme.comments.items c.note_comment-in-Ok-Some.new.comments.items c.len-in-Ok-Some.result (is_comment c.in-Ok-Some.lexeme.item.kind) c.loop-lexeme.invariant.remarks count (sym (ap keeps_comment c.entry_of-in-Ok-Some.ensures)) c.in_ok-note_comment-in-Ok-Some.ensures.ok);
+          (remark_pushed c.loop-lexeme.entries.items c.entry_of-in-Ok-Some.result c.loop-lexeme.comments.items c.note_comment-in-Ok-Some.new.comments.items c.len-id-in-Ok-Some.result (is_comment c.in-Ok-Some.lexeme.item.kind) c.loop-lexeme.invariant.remarks count (sym (ap keeps_comment c.entry_of-in-Ok-Some.ensures)) c.in_ok-note_comment-in-Ok-Some.ensures.ok);
+      marks =
+          rw c.in_ok-push-in-Ok-Some.ensures.items
+          (hash_noted _ _ _ _ c.loop-lexeme.entries.items c.in-Ok-Some.lexeme text_is kept next c.told_by_bytes.result c.at-gap.result c.entry_of-in-Ok-Some.result c.entry_of-in-Ok-Some.ensures
+          c.loop-lexeme.hashes.items c.note_hash-in-Ok-Some.new.hashes.items c.len-id-in-Ok-Some.result c.loop-lexeme.invariant.marks count c.in_ok-note_hash-in-Ok-Some.ensures.ok);
     }
 
 pub returns-in-Ok-None-clause-entries : goal.returns-in-Ok-None-clause-entries
@@ -114,8 +134,8 @@ returns-in-Ok-None-clause-entries c =
     let same = c.ahead-other.ensures ∙ c.in_default.ensures.none in
     let kept = subst (λ (r : Reading). IsKeptUpTo c.args.dialect c.args.text.now r.left c.loop-lexeme.entries.items r.at) (sym same) c.loop-lexeme.invariant.kept in
     rw c.into_bump_slice.ensures
-    (kept_ended c.args.dialect c.args.text.now c.ahead-other.result.left c.loop-lexeme.entries.items _ c.ahead-other.result.at c.requires.fits kept
-    (at_none _ _ _ c.in-Ok-None.field-0-is c.in-Ok-None.ensures.some) (c.into_bump_slice-in-Ok-None.ensures ∙ c.loop-lexeme.invariant.remarks))
+    (kept_ended c.args.dialect c.args.text.now c.ahead-other.result.left c.loop-lexeme.entries.items _ _ c.ahead-other.result.at c.requires.fits kept
+    (at_none _ _ _ c.in-Ok-None.field-0-is c.in-Ok-None.ensures.some) (c.into_bump_slice-in-Ok-None.ensures ∙ c.loop-lexeme.invariant.remarks) (c.into_bump_slice-in-Ok-None-2.ensures ∙ c.loop-lexeme.invariant.marks))
 
 pub overflow_cast-gap : goal.overflow_cast-gap
 overflow_cast-gap c =
