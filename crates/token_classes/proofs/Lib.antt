@@ -4,3 +4,6 @@ pub mod KeptLemmas
 pub mod KeptPlaces
 pub mod KeptSteps
 pub mod ListedLemmas
+pub mod FirstTold
+pub mod Sixteen
+pub mod QuietRuns

@@ -4,3 +4,4 @@ pub mod Kept
 pub mod Partner
 pub mod Partners
 pub mod Inside
+pub mod Lanes

@@ -6,6 +6,7 @@ ghost use Rattle.token_classes.specs.Partners.{partners_of, count_braces, StandB
 ghost use Rattle.token_classes.specs.Kept.{is_statement_brace, is_inside, kept_gaps_of, marked, AreOpeners};
 
 use crate::TokenClass;
+use crate::lanes::quiet_len;
 use crate::pairing::{Opener, close, waiting_step};
 use crate::partner::Partner;
 use bumpalo::Bump;
@@ -51,12 +52,19 @@ fn read_brackets(
     let mut any = false;
     let mut stack: Vec<Opener, &Bump> = Vec::with_capacity(run, DEPTH)?;
     let mut braces: usize = 0;
-    for (i, c) in classes.iter().enumerate() {
-        if c.is_semicolon() && mark_topmost(&stack, braces, marks) {
+    let mut place = 0;
+    while place < classes.len() {
+        let next = place + quiet_len(&classes[place..]);
+        if next == classes.len() {
+            return Ok(any);
+        }
+        let class = classes[next];
+        if class.is_semicolon() && mark_topmost(&stack, braces, marks) {
             any = true;
         }
-        let taken = waiting_step(&mut stack, &mut braces, i as u32, *c)?;
-        close(partners, taken, i as u32);
+        let taken = waiting_step(&mut stack, &mut braces, next as u32, class)?;
+        close(partners, taken, next as u32);
+        place = next + 1;
     }
     Ok(any)
 }

@@ -7,6 +7,7 @@
 mod class;
 mod class_sets;
 mod kept;
+mod lanes;
 mod listed;
 mod pairing;
 mod partner;

@@ -1,17 +1,19 @@
-use Rattle.std.proofs.Common.{◌≡◌, ◌≤◌, ℕ, false, reverse, get_or, drop}
-use Rattle.token_classes.specs.Partners.{count_braces, matching_from, matching_of, partners_of, StandBefore}
-use Rattle.token_classes.specs.Kept.{waiting_at}
-use Rattle.token_classes.proofs.KeptSteps.{AreBuilt, is_marked_before}
+use Rattle.std.proofs.Common.{◌≡◌, ◌≤◌, ◌-◌, false, length, reverse}
+use Rattle.token_classes.specs.Partners.{count_braces, StandBefore}
+use Rattle.token_classes.proofs.KeptSteps.{AreBuilt}
+use Rattle.token_classes.proofs.QuietRuns.{AreRead}
 use Rattle.token_classes.proofs.kept.read_brackets.Given as goal
 
-abbrev pub invariant-loop-i : goal.invariant-loop-i
-invariant-loop-i l = record {
-  waits : reverse l.stack.items ≡ waiting_at l.classes l.i;
+abbrev pub invariant-loop-place : goal.invariant-loop-place
+invariant-loop-place l = record {
+  within : l.place ≤ length l.classes;
+  read : AreRead l.classes l.place (reverse l.stack.items) l.partners l.marks;
   built : AreBuilt l.classes (reverse l.stack.items);
-  before : StandBefore l.i (reverse l.stack.items);
+  before : StandBefore l.place (reverse l.stack.items);
   count : l.braces ≡ count_braces (reverse l.stack.items);
-  small : l.braces ≤ l.i;
-  marks : (j : ℕ) → get_or l.marks j false ≡ is_marked_before l.classes l.i j;
-  pairs : (matching_from l.i (matching_of l.stack.items l.partners) (drop l.i l.classes)).partners ≡ partners_of l.classes;
+  small : l.braces ≤ l.place;
   none : l.any ≡ false → l.marks ≡ l.initial.marks;
 }
+
+abbrev pub decreases-loop-place : goal.decreases-loop-place
+decreases-loop-place l = length l.classes - l.place
