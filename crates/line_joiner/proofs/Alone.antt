@@ -1,28 +1,104 @@
 -- Lines with whose kind no row of the table begins.
 use Rattle.std.proofs.Common.{◌≡◌, ◌∙◌, ℕ, ◌+◌, ◌-◌, ◌<◌, Bool, true, false, Option, refl, List, [], ◌∷◌, ◌++◌, drop, length, get_or, take, sym, ap}
 use Rattle.std.proofs.lemmas.List.{append_assoc, drop_more}
-use Rattle.std.specs.Prelude.{if◌then◌else◌}
+use Rattle.std.specs.Prelude.{if◌then◌else◌, ◌&&◌, ◌||◌, nat_lt, not}
 use Rattle.std.proofs.lemmas.Bool.{or_parts}
 use Rattle.line_tokens.specs.declared.LineTok.{LineTok}
 use Rattle.line_tokens.specs.declared.line.ULine.{ULine}
 use Rattle.style_table.specs.declared.style.Style.{Style}
 use Rattle.token_classes.specs.declared.class.TokenClass.{TokenClass}
 use Rattle.line_tokens.specs.declared.Fixed.{Fixed}
-use Rattle.line_joiner.specs.JoinTable.{lines_by_table}
 use Rattle.line_joiner.specs.Joined.{joined_from, lines_joined, may_join, merged}
-use Rattle.line_joiner.specs.Kinds.{begins_row, is_case_label, is_control, is_enum_head, is_func_head, is_struct_head, may_have_else}
+use Rattle.line_joiner.specs.Kinds.{is_case_label, is_control, is_enum_head, is_func_head, is_loop, is_struct_head, may_have_else}
+use Rattle.line_joiner.specs.Facts.{is_attached, is_bare_header, word_of}
+use Rattle.line_joiner.specs.Heads.{heads_row, joins_blocks, joins_functions, joins_headers, joins_some_ifs}
+use Rattle.line_joiner.specs.Keys.{joins_all_blocks, joins_all_functions, joins_elses, joins_empty_blocks, joins_empty_functions, joins_ifs, joins_ifs_with_else}
+use Rattle.token_classes.specs.Classes.{is_else, is_if}
+use Rattle.line_tokens.specs.Table.{first_row}
+use Rattle.line_joiner.specs.JoinTable.{begins_with_close, begins_with_lone_close, begins_with_simple, behind, behind_enumerators, body_of, else_stands, lines_by_table, short_case}
 
-pub stays_alone : (style : Style) (classes : List TokenClass) (toks : List LineTok) (head : ULine) (rest : List ULine) → begins_row head.kind ≡ false → lines_by_table style classes toks head rest ≡ 1
+-- where the first and the last of some conditions don't hold together
+between : (a b c : Bool) → a && c ≡ false → a && b && c ≡ false
+between false b c off = refl
+between true false c off = refl
+between true true c off = off
+
+-- where the last doesn't hold in either way
+first_way : (a b c : Bool) → a && (b || c) ≡ false → a && b ≡ false
+first_way false b c off = refl
+first_way true b c off = (or_parts b c off).0
+
+second_way : (a b c : Bool) → a && (b || c) ≡ false → a && c ≡ false
+second_way false b c off = refl
+second_way true b c off = (or_parts b c off).1
+
+deep : (a b c d : Bool) → a && d ≡ false → a && b && c && d ≡ false
+deep a b c d off = between (a && b) c d (between a b d off)
+
+deeper : (a b c d e : Bool) → a && e ≡ false → a && b && c && d && e ≡ false
+deeper a b c d e off = between (a && b && c) d e (deep a b c e off)
+
+deepest : (a b c d e f : Bool) → a && f ≡ false → a && b && c && d && e && f ≡ false
+deepest a b c d e f off = between (a && b && c && d) e f (deeper a b c d f off)
+
+-- where the first doesn't hold
+first_off : (a b : Bool) → a ≡ false → a && b ≡ false
+first_off a b off = rw off refl
+
+-- no row is taken where none of the first eleven is
+no_row : (a b c d e f g h i j k : Bool) (l m n o p q r s t u v : ℕ) → a ≡ false → b ≡ false → c ≡ false → d ≡ false → e ≡ false → f ≡ false → g ≡ false → h ≡ false → i ≡ false → j ≡ false → k ≡ false
+    → first_row ((a, l) ∷ (b, m) ∷ (c, n) ∷ (d, o) ∷ (e, p) ∷ (f, q) ∷ (g, r) ∷ (h, s) ∷ (i, t) ∷ (j, u) ∷ (k, v) ∷ []) 1 ≡ 1
+no_row a b c d e f g h i j k l m n o p q r s t u v oa ob oc od oe of og oh oi oj ok =
+    rw (oa, ob, oc, od, oe, of, og, oh, oi, oj, ok) refl
+
+pub stays_alone : (style : Style) (classes : List TokenClass) (toks : List LineTok) (head : ULine) (rest : List ULine) → heads_row style head.kind ≡ false → lines_by_table style classes toks head rest ≡ 1
 stays_alone style classes toks head rest none =
-    let func = or_parts (is_func_head head.kind) _ none in
-    let struct = or_parts (is_struct_head head.kind) _ func.1 in
-    let control = or_parts (is_control head.kind) _ struct.1 in
-    let elses = or_parts (may_have_else head.kind) _ control.1 in
-    let label = or_parts (is_case_label head.kind) (is_enum_head head.kind) elses.1 in
-    rw (func.0, struct.0, control.0, elses.0, label.0, label.1) refl
+    let ifs = style.allow_short_if_statements_on_a_single_line in
+    let functions = style.allow_short_functions_on_a_single_line in
+    let blocks = style.allow_short_blocks_on_a_single_line in
+    let header = is_control head.kind in
+    let word = word_of classes head in
+    let bare = is_bare_header toks head in
+    let attached = is_attached toks head in
+    let simple = begins_with_simple rest in
+    let struct = or_parts (is_struct_head head.kind) _ none in
+    let func = or_parts (is_func_head head.kind && joins_functions style) _ struct.1 in
+    let control = or_parts (header && joins_headers style) _ func.1 in
+    let elses = or_parts (may_have_else head.kind && joins_elses ifs) _ control.1 in
+    let label = or_parts (is_case_label head.kind && style.allow_short_case_labels_on_a_single_line) _ elses.1 in
+    let some_ifs = first_way header (joins_some_ifs style) _ control.0 in
+    let others = second_way header (joins_some_ifs style) _ control.0 in
+    let loops = first_way header style.allow_short_loops_on_a_single_line (joins_blocks style) others in
+    let some_blocks = second_way header style.allow_short_loops_on_a_single_line (joins_blocks style) others in
+    let no_ifs = first_way header (joins_ifs ifs) (joins_ifs_with_else ifs) some_ifs in
+    let no_ifs_with_else = second_way header (joins_ifs ifs) (joins_ifs_with_else ifs) some_ifs in
+    let no_empty_blocks = first_way header (joins_empty_blocks blocks) (joins_all_blocks blocks) some_blocks in
+    let no_blocks = second_way header (joins_empty_blocks blocks) (joins_all_blocks blocks) some_blocks in
+    let no_empty_functions = first_way (is_func_head head.kind) (joins_empty_functions functions) (joins_all_functions functions) func.0 in
+    let no_functions = second_way (is_func_head head.kind) (joins_empty_functions functions) (joins_all_functions functions) func.0 in
+    let func_head = is_func_head head.kind in
+    let label_head = is_case_label head.kind in
+    let enum_head = is_enum_head head.kind in
+    let else_head = may_have_else head.kind in
+    let stands = else_stands classes (behind rest) in
+    let lone_close = begins_with_lone_close toks in
+    no_row _ _ _ _ _ _ _ _ _ _ _ _ _ _ _ _ _ _ _ _ _ _
+    (between func_head (lone_close (body_of rest)) (joins_empty_functions functions) no_empty_functions)
+    (deep func_head (begins_with_simple (body_of rest)) (lone_close (behind (body_of rest))) (joins_all_functions functions) no_functions)
+    (first_off (is_struct_head head.kind) (begins_with_close (body_of rest)) struct.0)
+    (deepest header (is_if word) bare simple (not stands) (joins_ifs ifs) no_ifs)
+    (deepest header (is_if word) bare simple stands (joins_ifs_with_else ifs) no_ifs_with_else)
+    (deeper else_head (is_else word) bare simple (joins_elses ifs) elses.0)
+    (deeper header (is_loop word) bare simple style.allow_short_loops_on_a_single_line loops)
+    (deep header attached (lone_close rest) (joins_empty_blocks blocks) no_empty_blocks)
+    (deeper header attached simple (lone_close (behind rest)) (joins_all_blocks blocks) no_blocks)
+    (first_off (label_head && not attached && style.allow_short_case_labels_on_a_single_line && nat_lt 0 (short_case 0 rest)) (nat_lt (short_case 0 rest) 3)
+    (first_off (label_head && not attached && style.allow_short_case_labels_on_a_single_line) (nat_lt 0 (short_case 0 rest))
+    (between label_head (not attached) style.allow_short_case_labels_on_a_single_line label.0)))
+    (deep enum_head attached (begins_with_close (behind_enumerators rest)) style.allow_short_enums_on_a_single_line label.1)
 
 -- none is joined to such a line
-none_joined : (style : Style) (classes : List TokenClass) (toks : List LineTok) (fixed : List (Option Fixed)) (head : ULine) (rest : List ULine) → begins_row head.kind ≡ false → lines_joined style classes toks fixed head rest ≡ 0
+none_joined : (style : Style) (classes : List TokenClass) (toks : List LineTok) (fixed : List (Option Fixed)) (head : ULine) (rest : List ULine) → heads_row style head.kind ≡ false → lines_joined style classes toks fixed head rest ≡ 0
 none_joined style classes toks fixed head rest none =
     ap (λ (n : ℕ). if may_join style toks fixed head (take (n - 1) rest) then n - 1 else 0) (stays_alone style classes toks head rest none) ∙ either (may_join style toks fixed head (take 0 rest))
   where
@@ -31,7 +107,7 @@ none_joined style classes toks fixed head rest none =
     either false = refl
 
 -- it stays as it is
-pub alone_at : (style : Style) (classes : List TokenClass) (toks : List LineTok) (fixed : List (Option Fixed)) (lines : List ULine) (i : ℕ) (d : ULine) → i < length lines → begins_row (get_or lines i d).kind ≡ false
+pub alone_at : (style : Style) (classes : List TokenClass) (toks : List LineTok) (fixed : List (Option Fixed)) (lines : List ULine) (i : ℕ) (d : ULine) → i < length lines → heads_row style (get_or lines i d).kind ≡ false
     → joined_from style classes toks fixed 0 (drop i lines) ≡ get_or lines i d ∷ joined_from style classes toks fixed 0 (drop (i + 1) lines)
 alone_at style classes toks fixed lines i d within none =
     let line = get_or lines i d in
@@ -40,7 +116,7 @@ alone_at style classes toks fixed lines i d within none =
     ∙ ap (λ (n : ℕ). merged line (take n rest) ∷ joined_from style classes toks fixed n rest) (none_joined style classes toks fixed line rest none)
 
 -- behind such a line
-pub alone_pushed : (style : Style) (classes : List TokenClass) (toks : List LineTok) (fixed : List (Option Fixed)) (skip : ℕ) (lines : List ULine) (i : ℕ) (d : ULine) (old new all : List ULine) → i < length lines → skip ≡ 0 → begins_row (get_or lines i d).kind ≡ false
+pub alone_pushed : (style : Style) (classes : List TokenClass) (toks : List LineTok) (fixed : List (Option Fixed)) (skip : ℕ) (lines : List ULine) (i : ℕ) (d : ULine) (old new all : List ULine) → i < length lines → skip ≡ 0 → heads_row style (get_or lines i d).kind ≡ false
     → old ++ joined_from style classes toks fixed skip (drop i lines) ≡ all → new ≡ old ++ get_or lines i d ∷ [] → new ++ joined_from style classes toks fixed skip (drop (i + 1) lines) ≡ all
 alone_pushed style classes toks fixed skip lines i d old new all within none alone so made =
     let rest = joined_from style classes toks fixed 0 (drop (i + 1) lines) in

@@ -6,6 +6,7 @@
 
 mod facts;
 mod fits;
+mod heads;
 mod joined;
 mod keys;
 mod kinds;
