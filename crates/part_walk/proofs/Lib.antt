@@ -2,3 +2,4 @@ pub mod Failed
 pub mod Heads
 pub mod PlainTokens
 pub mod Waits
+mod StillWords

@@ -10,6 +10,7 @@ mod brackets;
 mod classes;
 mod reading;
 mod walk;
+mod words;
 
 pub use bodies::{BodyKind, BodyPlace, Head, opened_head, place_behind};
 pub use brackets::OpenBrackets;

@@ -7,6 +7,7 @@ ghost use Rattle.part_walk.specs.Walk.{reading};
 
 use crate::classes::is_lost;
 use crate::walk::{Around, Outcome, Walk, asked_at};
+use crate::words::{goes_on_still, pass_word};
 use line_tokens::TokenId;
 use token_arena::TokenArena;
 use token_classes::TokenClass;
@@ -25,6 +26,11 @@ fn read_outside(
     ensures read { read_so result walk.new ≡ reading arena.now walk.old Outside id.0 class }
     ensures stays { StaysWhereItEnds result walk.old walk.new }
 {
+    // Most tokens are words of a declaration that goes on.
+    if goes_on_still(walk, class) {
+        pass_word(walk, id, class);
+        return Outcome::GoesOn;
+    }
     let asked = asked_at(arena, walk, id, class);
     if let Some(count) = asked {
         if class.is_word() {

@@ -158,7 +158,7 @@ impl Before {
     }
 
     /// Whether no declaration goes on there.
-    fn is_between(self) -> bool
+    pub(crate) fn is_between(self) -> bool
         ensures { result ≡ is_between self }
     {
         matches!(self, Before::Semicolon | Before::Body | Before::Between)
