@@ -6,3 +6,4 @@ pub mod SegmentLemmas
 pub mod Passed
 pub mod CommentParts
 pub mod EndsWithToken
+mod Rows
