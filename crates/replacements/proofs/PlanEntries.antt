@@ -1,15 +1,16 @@
 -- A plan by its entries.
-use Rattle.std.proofs.Common.{◌≡◌, ◌∙◌, ◌<◌, ◌≤◌, ◌+◌, ◌-◌, ◌^◌, ℕ, zero, suc, true, false, Some, None, Option, List, [], ◌∷◌, ◌++◌, length, get_or, take, drop, replicate, set, refl, ap, sym, subst, arith}
-use Rattle.std.specs.Prelude.{All, is_some, IsSome, if◌then◌else◌}
+use Rattle.std.proofs.Common.{◌≡◌, ◌∙◌, ◌<◌, ◌≤◌, ◌+◌, ◌-◌, ◌/◌, ◌%◌, ◌^◌, ℕ, zero, suc, true, false, Some, None, Option, List, [], ◌∷◌, ◌++◌, length, get_or, take, drop, replicate, set, refl, ap, sym, subst, arith}
+use Rattle.std.specs.Prelude.{All, slice_get, is_some, IsSome, if◌then◌else◌}
 use Rattle.std.proofs.lemmas.List.{get_or-drop, get_or-map, get_or-take, get_or_append_left, length-append, length-drop, length-map, length-replicate, length-set, length-take-le, map-set}
 use Rattle.std.proofs.lemmas.List.Elements.{All-cons, All-get_or, All-head, All-set, All-tail}
+use Rattle.std.proofs.lemmas.Nat.{div-add-mod'}
 use Rattle.std.proofs.lemmas.Option.{slice_get-get_or}
 use Rattle.std.proofs.Math.Seq.{get_or-append_seam}
 use Rattle.std.proofs.lemmas.Bool.{false≢true, true≢false}
 use Rattle.replacements.specs.Decisions.{AreDecided, IsSomeOpen, decided, slot_of}
-use Rattle.replacements.specs.Inside.{AreTaken, FitApart, IsGrown, IsHeld, IsSomeFree, is_open, open_in, slot_in, slots_in}
+use Rattle.replacements.specs.Inside.{AreTaken, FitApart, IsGrown, IsHeld, IsSomeFree, is_open, open_in, place_apart, slot_in, slots_in}
 use Rattle.replacements.specs.declared.entry.Entry.{Entry}
-use Rattle.replacements.specs.declared.entry.Entry.TheVariants.{Open, Old, Spaces, Lines, Apart}
+use Rattle.replacements.specs.declared.entry.Entry.TheVariants.{Open, Old, Spaces, Line, BlankLine, Apart}
 use Rattle.replacements.specs.declared.gap_text.Decision.TheVariants as decision
 use Rattle.replacements.specs.declared.slot.Slot.{Slot}
 
@@ -27,7 +28,7 @@ open_held : (count : ℕ) → All (IsHeld []) (replicate count Open)
 open_held zero = λ k d within. absurd (omega (arith, within))
 open_held (suc count) = All-cons (IsHeld []) Open (replicate count Open) tt (open_held count)
 
-pub fit_open : (count capacity : ℕ) → count ≤ capacity → count < 2 ^ 32 → FitApart [] capacity (replicate count Open)
+pub fit_open : (count capacity : ℕ) → count ≤ capacity → count < 2 ^ 24 → FitApart [] capacity (replicate count Open)
 fit_open count capacity room few =
     let long : length (replicate count Open) ≡ count = length-replicate count Open in
     let free : open_in (replicate count Open) ≡ count = open_count count in record {
@@ -46,18 +47,20 @@ held_more : (apart more : List Slot) (entry : Entry) → IsHeld apart entry → 
 held_more apart more Open held = held
 held_more apart more (Old end) held = held
 held_more apart more (Spaces count end) held = held
-held_more apart more (Lines count level column) held = held
-held_more apart more (Apart at) held = let long : length (apart ++ more) ≡ length apart + length more = length-append apart more in omega (arith, held, long)
+held_more apart more (Line level column) held = held
+held_more apart more (BlankLine level column) held = held
+held_more apart more (Apart page at) held = let long : length (apart ++ more) ≡ length apart + length more = length-append apart more in omega (arith, held, long)
 
 slot_more : (apart more : List Slot) (entry : Entry) → IsHeld apart entry → slot_in (apart ++ more) entry ≡ slot_in apart entry
 slot_more apart more Open held = refl
 slot_more apart more (Old end) held = refl
 slot_more apart more (Spaces count end) held = refl
-slot_more apart more (Lines count level column) held = refl
-slot_more apart more (Apart at) held =
+slot_more apart more (Line level column) held = refl
+slot_more apart more (BlankLine level column) held = refl
+slot_more apart more (Apart page at) held =
     let long : length (apart ++ more) ≡ length apart + length more = length-append apart more in
-    slice_get-get_or (apart ++ more) at no_slot (omega (arith, held, long))
-    ∙ (ap (λ (slot : Slot). Some slot) (get_or_append_left apart more no_slot at held) ∙ sym (slice_get-get_or apart at no_slot held))
+    slice_get-get_or (apart ++ more) (place_apart page at) no_slot (omega (arith, held, long))
+    ∙ (ap (λ (slot : Slot). Some slot) (get_or_append_left apart more no_slot (place_apart page at) held) ∙ sym (slice_get-get_or apart (place_apart page at) no_slot held))
 
 all_held_more : (apart more : List Slot) (entries : List Entry) → All (IsHeld apart) entries → All (IsHeld (apart ++ more)) entries
 all_held_more apart more [] held = λ k d within. absurd (omega (arith, within))
@@ -70,10 +73,12 @@ slots_more apart more (entry ∷ later) held =
     ∙ ap (λ (slots : List (Option Slot)). slot_in apart entry ∷ slots) (slots_more apart more later (All-tail (IsHeld apart) entry later held))
 
 -- the decision that stands apart last
-pub last_apart : (apart : List Slot) (slot : Slot) → slot_in (apart ++ slot ∷ []) (Apart (length apart)) ≡ Some slot
+pub last_apart : (apart : List Slot) (slot : Slot) → slot_in (apart ++ slot ∷ []) (Apart (length apart / 65536) (length apart % 65536)) ≡ Some slot
 last_apart apart slot =
     let long : length (apart ++ slot ∷ []) ≡ length apart + length (slot ∷ []) = length-append apart (slot ∷ []) in
-    slice_get-get_or (apart ++ slot ∷ []) (length apart) no_slot (omega (arith, long)) ∙ ap (λ (last : Slot). Some last) (get_or-append_seam apart slot [] no_slot)
+    let place : place_apart (length apart / 65536) (length apart % 65536) ≡ length apart = div-add-mod' (length apart) 65536 in
+    ap (λ (n : ℕ). slice_get (apart ++ slot ∷ []) n) place
+    ∙ (slice_get-get_or (apart ++ slot ∷ []) (length apart) no_slot (omega (arith, long)) ∙ ap (λ (last : Slot). Some last) (get_or-append_seam apart slot [] no_slot))
 
 -- ## An entry for an open gap
 
@@ -81,22 +86,25 @@ taken_in : (entry : Entry) (later : List Entry) → is_open entry ≡ false → 
 taken_in Open later taken = absurd (true≢false taken)
 taken_in (Old end) later taken = refl
 taken_in (Spaces count end) later taken = refl
-taken_in (Lines count level column) later taken = refl
-taken_in (Apart at) later taken = refl
+taken_in (Line level column) later taken = refl
+taken_in (BlankLine level column) later taken = refl
+taken_in (Apart page at) later taken = refl
 
 free_in : (entry : Entry) (later : List Entry) → is_open entry ≡ true → open_in (entry ∷ later) ≡ suc (open_in later)
 free_in Open later free = refl
 free_in (Old end) later free = absurd (false≢true free)
 free_in (Spaces count end) later free = absurd (false≢true free)
-free_in (Lines count level column) later free = absurd (false≢true free)
-free_in (Apart at) later free = absurd (false≢true free)
+free_in (Line level column) later free = absurd (false≢true free)
+free_in (BlankLine level column) later free = absurd (false≢true free)
+free_in (Apart page at) later free = absurd (false≢true free)
 
 open_on : (first : Entry) (fewer later : List Entry) → suc (open_in fewer) ≡ open_in later → suc (open_in (first ∷ fewer)) ≡ open_in (first ∷ later)
 open_on Open fewer later less = ap (λ (n : ℕ). suc n) less
 open_on (Old end) fewer later less = less
 open_on (Spaces count end) fewer later less = less
-open_on (Lines count level column) fewer later less = less
-open_on (Apart at) fewer later less = less
+open_on (Line level column) fewer later less = less
+open_on (BlankLine level column) fewer later less = less
+open_on (Apart page at) fewer later less = less
 
 -- the entry of a decision in the place of that of an open gap
 open_less : (entries : List Entry) (place : ℕ) (entry : Entry) → place < length entries → is_open (get_or entries place Open) ≡ true → is_open entry ≡ false
@@ -135,15 +143,17 @@ taken_some : (apart : List Slot) (entry : Entry) → IsHeld apart entry → is_o
 taken_some apart Open held taken = absurd (true≢false taken)
 taken_some apart (Old end) held taken = search
 taken_some apart (Spaces count end) held taken = search
-taken_some apart (Lines count level column) held taken = search
-taken_some apart (Apart at) held taken = subst (λ (slot : Option Slot). IsSome slot) (sym (slice_get-get_or apart at no_slot held)) search
+taken_some apart (Line level column) held taken = search
+taken_some apart (BlankLine level column) held taken = search
+taken_some apart (Apart page at) held taken = subst (λ (slot : Option Slot). IsSome slot) (sym (slice_get-get_or apart (place_apart page at) no_slot held)) search
 
 free_none : (apart : List Slot) (entry : Entry) → is_open entry ≡ true → slot_in apart entry ≡ None
 free_none apart Open free = refl
 free_none apart (Old end) free = absurd (false≢true free)
 free_none apart (Spaces count end) free = absurd (false≢true free)
-free_none apart (Lines count level column) free = absurd (false≢true free)
-free_none apart (Apart at) free = absurd (false≢true free)
+free_none apart (Line level column) free = absurd (false≢true free)
+free_none apart (BlankLine level column) free = absurd (false≢true free)
+free_none apart (Apart page at) free = absurd (false≢true free)
 
 slot_at : (apart : List Slot) (entries : List Entry) (place : ℕ) → place < length entries → slot_of (slots_in apart entries) place ≡ slot_in apart (get_or entries place Open)
 slot_at apart entries place within = get_or-map (slot_in apart) entries place Open None within
@@ -210,8 +220,9 @@ told_open : (apart : List Slot) (entry : Entry) → IsHeld apart entry → is_so
 told_open apart Open held none = refl
 told_open apart (Old end) held none = absurd (true≢false none)
 told_open apart (Spaces count end) held none = absurd (true≢false none)
-told_open apart (Lines count level column) held none = absurd (true≢false none)
-told_open apart (Apart at) held none = absurd (true≢false (sym (ap (λ (slot : Option Slot). is_some slot) (slice_get-get_or apart at no_slot held)) ∙ none))
+told_open apart (Line level column) held none = absurd (true≢false none)
+told_open apart (BlankLine level column) held none = absurd (true≢false none)
+told_open apart (Apart page at) held none = absurd (true≢false (sym (ap (λ (slot : Option Slot). is_some slot) (slice_get-get_or apart (place_apart page at) no_slot held)) ∙ none))
 
 pub is_free : (apart : List Slot) (entries : List Entry) (plan : List (Option Slot)) (place : ℕ) → plan ≡ slots_in apart entries → All (IsHeld apart) entries → is_some (slot_of plan place) ≡ false
     → place < length plan → is_open (get_or entries place Open) ≡ true

@@ -1,18 +1,23 @@
 -- How a plan lies in memory, which its model hides.
-use Rattle.std.specs.Prelude.{◌<◌, ◌≤◌, ◌+◌, ◌++◌, ◌^◌, ◌≡◌, ℕ, suc, Bool, true, false, Option, Some, None, List, []}
+use Rattle.std.specs.Prelude.{◌<◌, ◌≤◌, ◌+◌, ◌*◌, ◌++◌, ◌^◌, ◌≡◌, ℕ, suc, Bool, true, false, Option, Some, None, List, []}
 use Rattle.std.specs.Prelude.{◌∷◌, All, get_or, length, map, slice_get}
 use Rattle.replacements.specs.declared.gap_text.Decision.TheVariants as decision
 use Rattle.replacements.specs.declared.slot.Slot.{Slot}
 use Rattle.replacements.specs.declared.entry.Entry.{Entry}
-use Rattle.replacements.specs.declared.entry.Entry.TheVariants.{Open, Old, Spaces, Lines, Apart}
+use Rattle.replacements.specs.declared.entry.Entry.TheVariants.{Open, Old, Spaces, Line, BlankLine, Apart}
+
+-- where a decision that stands apart has its place
+abbrev pub place_apart : ℕ → ℕ → ℕ
+place_apart page at = page * 65536 + at
 
 -- what an entry has for its gap, where these decisions stand apart: nothing where it is open
 abbrev pub slot_in : List Slot → Entry → Option Slot
 slot_in apart Open = None
 slot_in apart (Old end) = Some (record { decision = decision.Old; end = end })
 slot_in apart (Spaces count end) = Some (record { decision = decision.Spaces count; end = end })
-slot_in apart (Lines count level column) = Some (record { decision = decision.Lines count column level; end = column })
-slot_in apart (Apart at) = slice_get apart at
+slot_in apart (Line level column) = Some (record { decision = decision.Lines 1 column level; end = column })
+slot_in apart (BlankLine level column) = Some (record { decision = decision.Lines 2 column level; end = column })
+slot_in apart (Apart page at) = slice_get apart (place_apart page at)
 
 -- what entries have for their gaps
 abbrev pub slots_in : List Slot → List Entry → List (Option Slot)
@@ -23,8 +28,9 @@ abbrev pub is_open : Entry → Bool
 is_open Open = true
 is_open (Old end) = false
 is_open (Spaces count end) = false
-is_open (Lines count level column) = false
-is_open (Apart at) = false
+is_open (Line level column) = false
+is_open (BlankLine level column) = false
+is_open (Apart page at) = false
 
 -- the entries from one up to another are those of decided gaps
 abbrev pub AreTaken : List Entry → ℕ → ℕ → Type 0
@@ -43,23 +49,25 @@ open_in [] = 0
 open_in (Open ∷ later) = suc (open_in later)
 open_in (Old end ∷ later) = open_in later
 open_in (Spaces count end ∷ later) = open_in later
-open_in (Lines count level column ∷ later) = open_in later
-open_in (Apart at ∷ later) = open_in later
+open_in (Line level column ∷ later) = open_in later
+open_in (BlankLine level column ∷ later) = open_in later
+open_in (Apart page at ∷ later) = open_in later
 
 -- a decision that an entry says stands apart stands there
 abbrev pub IsHeld : List Slot → Entry → Type 0
 IsHeld apart Open = Unit
 IsHeld apart (Old end) = Unit
 IsHeld apart (Spaces count end) = Unit
-IsHeld apart (Lines count level column) = Unit
-IsHeld apart (Apart at) = at < length apart
+IsHeld apart (Line level column) = Unit
+IsHeld apart (BlankLine level column) = Unit
+IsHeld apart (Apart page at) = place_apart page at < length apart
 
 -- the decisions that stand apart are those of the entries, and there is room for those of all gaps that are open
 pub record FitApart (apart : List Slot) (capacity : ℕ) (entries : List Entry) : Type 0 where
   pub held : All (IsHeld apart) entries
   pub few : length apart + open_in entries ≤ length entries
   pub room : length entries ≤ capacity
-  pub count : length entries < 2 ^ 32
+  pub count : length entries < 2 ^ 24
 
 -- one decision more stands apart, or none
 pub record IsGrown (before after : List Slot) : Type 0 where

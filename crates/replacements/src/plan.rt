@@ -1,6 +1,6 @@
 //! The decisions for the gaps of a text.
 
-ghost use Rattle.std.specs.Prelude.{◌≡◌, ◌<◌, ◌≤◌, ◌+◌, ◌^◌, ◌++◌, ◌∷◌, ◌↔◌, [], Some, None, false, length, replicate};
+ghost use Rattle.std.specs.Prelude.{◌≡◌, ◌<◌, ◌≤◌, ◌+◌, ◌/◌, ◌%◌, ◌^◌, ◌++◌, ◌∷◌, ◌↔◌, [], Some, None, false, length, replicate};
 ghost use Rattle.std.specs.Prelude.{vec_capacity, IfOk, IfSome, IsSome, IsTrue};
 ghost use Rattle.replacements.specs.declared.gap_text.Decision.TheVariants.{Lines, Spaces};
 ghost use Rattle.replacements.specs.Written.{decision_at};
@@ -85,21 +85,21 @@ fn all_decided(entries: &[Entry]) -> bool
 /// The entry of a decision that stands apart from now on. Few do.
 #[inline(never)]
 fn set_apart(apart: &mut Vec<Slot, &Bump>, slot: Slot) -> Entry
-    requires few { length apart.old.items < 2 ^ 32 }
+    requires few { length apart.old.items < 2 ^ 24 }
     requires room { length apart.old.items < vec_capacity apart.old }
     ensures room { vec_capacity apart.new ≡ vec_capacity apart.old }
     ensures apart { apart.new.items ≡ apart.old.items ++ slot ∷ [] }
-    ensures entry { result ≡ Apart (length apart.old.items) }
+    ensures entry { result ≡ Apart (length apart.old.items / 65536) (length apart.old.items % 65536) }
 {
-    let at = apart.len() as u32;
+    let place = apart.len();
     apart.push_reserved(slot);
-    Entry::Apart { at }
+    Entry::apart(place)
 }
 
 /// The entry of a decision, which stands apart if the entry has no room for it.
 #[inline(always)]
 fn entry_of(slot: Slot, apart: &mut Vec<Slot, &Bump>) -> Entry
-    requires few { length apart.old.items < 2 ^ 32 }
+    requires few { length apart.old.items < 2 ^ 24 }
     requires room { length apart.old.items < vec_capacity apart.old }
     ensures room { vec_capacity apart.new ≡ vec_capacity apart.old }
     ensures grown { IsGrown apart.old.items apart.new.items }

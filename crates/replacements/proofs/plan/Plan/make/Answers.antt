@@ -20,6 +20,6 @@ invariant_of-result c =
     let open_all : c.into_bump_slice_mut.result.now ≡ replicate count Open = search rules in
     let none : c.in_ok-apart.apart.items ≡ [] = search rules in
     let room : count ≤ vec_capacity c.in_ok-apart.apart = search rules in
-    let few : count < 2 ^ 32 = search rules in
+    let few : count < 2 ^ 24 = search rules in
     subst (λ (entries : List Entry). FitApart c.in_ok-apart.apart.items (vec_capacity c.in_ok-apart.apart) entries) (sym open_all)
     (subst (λ (apart : List Slot). FitApart apart (vec_capacity c.in_ok-apart.apart) (replicate count Open)) (sym none) (fit_open count (vec_capacity c.in_ok-apart.apart) room few))
