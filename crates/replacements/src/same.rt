@@ -1,6 +1,6 @@
 //! Gaps that the input has as they are decided.
 
-ghost use Rattle.std.specs.Prelude.{◌≡◌, ◌<◌, ◌≤◌, Bool, true, length, take, IfSome, IsTrue};
+ghost use Rattle.std.specs.Prelude.{◌≡◌, ◌<◌, ◌≤◌, Bool, length, take, IfSome, IsTrue};
 ghost use Rattle.token_arena.specs.Gaps.{Stands};
 ghost use Rattle.replacements.specs.declared.gap_text.Decision.TheVariants.{Lines, Spaces};
 ghost use Rattle.style_table.specs.declared.style.Style.{Style};
@@ -90,6 +90,26 @@ fn are_same_blanks(
     usize::from(blanks_told(byte)) == count as usize + 1
 }
 
+/// Whether so many blanks that are decided before an item, which may be the first, stand there in the input.
+#[inline(always)]
+pub(crate) fn have_blanks(
+    arena: &TokenArena<'_, '_>,
+    at: usize,
+    place: u32,
+    token: &Token<'_>,
+    count: u32,
+) -> bool
+    requires here { IsAt arena.now.tokens place (told_by token.now) }
+    requires stands { Stands arena.now.text at (told_by token.now) }
+    ensures { IsTrue result → (style : Style) (crlf : Bool) →
+        IsSame style crlf arena.now at place (Spaces count) (told_by token.now) }
+{
+    if place == 0 {
+        return false;
+    }
+    are_same_blanks(arena, at, place, token, count)
+}
+
 /// Whether blanks are decided before an item behind another, and stand there in the input.
 #[inline(always)]
 pub(crate) fn has_same_blanks(
@@ -147,40 +167,10 @@ pub(crate) fn lines_piece(
     Some(piece)
 }
 
-/// Whether the input's bytes stay in a gap, as in few that are decided.
-#[inline(never)]
-fn stays(plan: &Plan<'_>, place: u32) -> bool
-    requires { place < length plan.now }
-    ensures { result ≡ is_old (decision_at plan.now place) }
-{
-    matches!(decision_at(plan, place), Decision::Old)
-}
-
-/// Whether blanks that are decided before an item stand there in the input, or its bytes stay, so that nothing has to
-/// be written.
+/// Whether the input's bytes stay in a gap that is decided so.
 #[inline(always)]
-pub(crate) fn is_same(
-    style: &Style,
-    crlf: bool,
-    arena: &TokenArena<'_, '_>,
-    at: usize,
-    place: u32,
-    token: &Token<'_>,
-    plan: &Plan<'_>,
-) -> bool
-    requires whole { place < length plan.now }
-    requires item { IsAt arena.now.tokens place (told_by token.now) }
-    requires stands { Stands arena.now.text at (told_by token.now) }
-    requires here { place ≤ length arena.now.tokens }
-    ensures same { IsTrue result →
-        IsSame style.now crlf arena.now at place (decision_at plan.now place) (told_by token.now) }
-    ensures old { is_old (decision_at plan.now place) ≡ true → IsTrue result }
+pub(crate) fn stays(decision: Decision) -> bool
+    ensures { result ≡ is_old decision }
 {
-    if let Some(count) = plan.blanks(place) {
-        if place == 0 {
-            return false;
-        }
-        return are_same_blanks(arena, at, place, token, count);
-    }
-    stays(plan, place)
+    matches!(decision, Decision::Old)
 }

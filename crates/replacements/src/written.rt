@@ -12,7 +12,7 @@ ghost use Rattle.replacements.specs.Guards.{guard_before, guarded_text};
 ghost use Rattle.replacements.specs.Stances.{stance_in, hash_comes, IsAt, IsKnown};
 ghost use Rattle.replacements.specs.Written.{bytes_between, decision_at, first_gap, is_of_text, is_old, laid_gap};
 ghost use Rattle.replacements.specs.Written.{mark_bytes, planned_gap, written, written_from};
-ghost use Rattle.replacements.specs.declared.gap_text.Decision.TheVariants.{Lines};
+ghost use Rattle.replacements.specs.declared.gap_text.Decision.TheVariants.{Lines, Spaces};
 ghost use Rattle.replacements.specs.declared.guard.Guard.TheVariants.{Free};
 ghost use Rattle.style_table.specs.declared.style.Style.{Style};
 
@@ -21,7 +21,9 @@ use crate::gap_text::LinesPiece;
 use crate::guard::{Guard, guard_before, guard_for, guard_text, guarded_ends, is_free};
 use crate::hash::{HashRun, hash_comes};
 use crate::plan::Plan;
-use crate::same::{are_equal, between, comes_no_hash, has_same_blanks, is_same, lines_piece};
+use crate::same::{
+    are_equal, between, comes_no_hash, has_same_blanks, have_blanks, lines_piece, stays,
+};
 use crate::stance::{Stance, stance_at};
 use crate::{Decision, write_gap};
 use fmt_ports::{Failed, Sink, write_all, write_front};
@@ -332,6 +334,103 @@ fn write_lines_before<K: Sink>(
     )
 }
 
+/// Writes blanks that are decided before an item, and what is held before that, unless the input has them there and
+/// they are held too.
+#[inline(always)]
+fn write_blanks_before<K: Sink>(
+    style: &Style,
+    crlf: bool,
+    arena: &TokenArena<'_, '_>,
+    sections: &[Section],
+    walk: &mut Walk,
+    place: u32,
+    token: &Token<'_>,
+    count: u32,
+    sink: &mut K,
+) -> Result<(), Failed>
+    requires tab { 1 ≤ style.now.tab_width }
+    requires here { IsAt arena.now.tokens place (told_by token.now) }
+    requires within { walk.old.section ≤ length sections.now }
+    requires later { (k : ℕ) → place ≤ k → stance_in (drop walk.old.section sections.now) k ≡ stance_in sections.now k }
+    requires known { IsKnown arena.now.dialect arena.now.tokens place walk.old.run.end walk.old.run.hash }
+    requires stands { Stands arena.now.text walk.old.at (told_by token.now) }
+    requires held { walk.old.held ≤ walk.old.at }
+    ensures within { walk.new.section ≤ length sections.now }
+    ensures later { (k : ℕ) → place ≤ k → stance_in (drop walk.new.section sections.now) k ≡ stance_in sections.now k }
+    ensures known { IsKnown arena.now.dialect arena.now.tokens place walk.new.run.end walk.new.run.hash }
+    ensures kept { walk.new.at ≡ walk.old.at }
+    ensures held { walk.new.held ≤ token.now.item.start }
+    ensures ok { OnOk result ((piece : List ℕ) × Appends (K.taken sink.old) (K.taken sink.new) piece
+        × (bytes_between arena.now.text walk.old.held walk.old.at
+        ++ planned_gap style.now crlf arena.now (guard_before arena.now.tokens place) walk.old.at place
+        (stance_in sections.now place) (Spaces count) (told_by token.now)
+        (drop (place + 1) arena.now.tokens)
+        ≡ piece ++ bytes_between arena.now.text walk.new.held token.now.item.start)) }
+    ensures part { AppendsPart (K.taken sink.old) (K.taken sink.new)
+        (bytes_between arena.now.text walk.old.held walk.old.at
+        ++ planned_gap style.now crlf arena.now (guard_before arena.now.tokens place) walk.old.at place
+        (stance_in sections.now place) (Spaces count) (told_by token.now)
+        (drop (place + 1) arena.now.tokens)) }
+    ensures counts { Counts (K.faults sink.old) (K.faults sink.new) result }
+{
+    if have_blanks(arena, walk.at, place, token, count) {
+        return Ok(());
+    }
+    let decision = Decision::Spaces(count);
+    write_anew(
+        style, crlf, arena, sections, walk, place, token, decision, sink,
+    )
+}
+
+/// Writes what stands before an item where that is neither lines nor blanks, as before few.
+#[inline(never)]
+fn write_other_before<K: Sink>(
+    style: &Style,
+    crlf: bool,
+    arena: &TokenArena<'_, '_>,
+    sections: &[Section],
+    plan: &Plan<'_>,
+    walk: &mut Walk,
+    place: u32,
+    token: &Token<'_>,
+    sink: &mut K,
+) -> Result<(), Failed>
+    requires tab { 1 ≤ style.now.tab_width }
+    requires whole { length plan.now ≡ length arena.now.tokens + 1 }
+    requires inside { place < length arena.now.tokens }
+    requires here { IsAt arena.now.tokens place (told_by token.now) }
+    requires within { walk.old.section ≤ length sections.now }
+    requires later { (k : ℕ) → place ≤ k → stance_in (drop walk.old.section sections.now) k ≡ stance_in sections.now k }
+    requires known { IsKnown arena.now.dialect arena.now.tokens place walk.old.run.end walk.old.run.hash }
+    requires stands { Stands arena.now.text walk.old.at (told_by token.now) }
+    requires held { walk.old.held ≤ walk.old.at }
+    ensures within { walk.new.section ≤ length sections.now }
+    ensures later { (k : ℕ) → place ≤ k → stance_in (drop walk.new.section sections.now) k ≡ stance_in sections.now k }
+    ensures known { IsKnown arena.now.dialect arena.now.tokens place walk.new.run.end walk.new.run.hash }
+    ensures kept { walk.new.at ≡ walk.old.at }
+    ensures held { walk.new.held ≤ token.now.item.start }
+    ensures ok { OnOk result ((piece : List ℕ) × Appends (K.taken sink.old) (K.taken sink.new) piece
+        × (bytes_between arena.now.text walk.old.held walk.old.at
+        ++ planned_gap style.now crlf arena.now (guard_before arena.now.tokens place) walk.old.at place
+        (stance_in sections.now place) (decision_at plan.now place) (told_by token.now)
+        (drop (place + 1) arena.now.tokens)
+        ≡ piece ++ bytes_between arena.now.text walk.new.held token.now.item.start)) }
+    ensures part { AppendsPart (K.taken sink.old) (K.taken sink.new)
+        (bytes_between arena.now.text walk.old.held walk.old.at
+        ++ planned_gap style.now crlf arena.now (guard_before arena.now.tokens place) walk.old.at place
+        (stance_in sections.now place) (decision_at plan.now place) (told_by token.now)
+        (drop (place + 1) arena.now.tokens)) }
+    ensures counts { Counts (K.faults sink.old) (K.faults sink.new) result }
+{
+    let decision = decision_at(plan, place);
+    if stays(decision) {
+        return Ok(());
+    }
+    write_anew(
+        style, crlf, arena, sections, walk, place, token, decision, sink,
+    )
+}
+
 /// Writes what stands before an item, and what is held before that, unless the input has it there and it is held too.
 #[inline(always)]
 fn write_before<K: Sink>(
@@ -372,17 +471,16 @@ fn write_before<K: Sink>(
         (drop (place + 1) arena.now.tokens)) }
     ensures counts { Counts (K.faults sink.old) (K.faults sink.new) result }
 {
-    // Most of these gaps are lines, which are told apart before anything is written.
+    // Most of these gaps are lines or blanks, which are told apart before anything is written.
     if let Some(gap) = plan.lines(place) {
         return write_lines_before(style, crlf, arena, sections, walk, place, token, gap, sink);
     }
-    if is_same(style, crlf, arena, walk.at, place, token, plan) {
-        return Ok(());
+    if let Some(count) = plan.blanks(place) {
+        return write_blanks_before(
+            style, crlf, arena, sections, walk, place, token, count, sink,
+        );
     }
-    let decision = decision_at(plan, place);
-    write_anew(
-        style, crlf, arena, sections, walk, place, token, decision, sink,
-    )
+    write_other_before(style, crlf, arena, sections, plan, walk, place, token, sink)
 }
 
 /// Writes what stands before an item that the input doesn't have there, and holds the item.
