@@ -7,7 +7,7 @@ ghost use Rattle.line_gaps.specs.Fixed.{fixed_of_token, fixed_up_to};
 
 use crate::tokens::token_at;
 use bumpalo::Bump;
-use bumpalo::collections::into_bump_slice;
+use bumpalo::collections::{into_bump_slice, into_bump_slice_mut};
 use line_tokens::{Fixed, LineTok, NoMemory};
 use replacements::Plan;
 use token_arena::TokenArena;
@@ -81,6 +81,16 @@ fn all_open<'r>(count: usize, run: &'r Bump) -> Result<&'r [Option<Fixed>], NoMe
     Ok(into_bump_slice(vec![in run; None; count]?))
 }
 
+/// The same, to be changed: they take memory, few or many.
+fn own_open<'r>(count: usize, run: &'r Bump) -> Result<&'r mut [Option<Fixed>], NoMemory>
+    ensures { IfOk result (λ fixed. fixed.now ≡ replicate count None) }
+{
+    if count <= OPEN.len() {
+        return Ok(run.try_alloc_slice_copy(some_open(count))?);
+    }
+    Ok(into_bump_slice_mut(vec![in run; None; count]?))
+}
+
 /// Tells what is decided of the gaps before the tokens from one place up to another, where that is told up to the first
 /// of them.
 fn tell_decided(
@@ -138,12 +148,12 @@ pub fn fixed_of<'r>(
     requires within { All (λ token. token.id.0 < length plan.now) tokens.now }
     ensures { IfOk result (λ fixed. fixed.now ≡ map (fixed_of_token arena.now plan.now) tokens.now) }
 {
-    let open = all_open(tokens.len(), run)?;
     let front = open_front(plan, tokens);
     if are_open(plan, tokens, front) {
+        let open = all_open(tokens.len(), run)?;
         return Ok(open);
     }
-    let fixed = run.try_alloc_slice_copy(open)?;
+    let fixed = own_open(tokens.len(), run)?;
     let mut first = front;
     while first + 8 <= tokens.len() {
         tell_eight(arena, tokens, plan, first, fixed);

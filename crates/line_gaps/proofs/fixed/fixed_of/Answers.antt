@@ -19,8 +19,8 @@ loop-first-init c =
     let f = fixed_of_token arena plan in
     record {
       within = c.open_front-front.ensures.within;
-      told = c.in_ok-fixed.ensures ∙ (c.in_ok-open.ensures ∙ (none_told f tokens
-          ∙ told_open f tokens 0 c.open_front-front.result (omega arith) (λ i d more less. ap (fixed_by arena (get_or tokens i d).id.0) (c.open_front-front.ensures.open_gaps i d less))));
+      told = c.in_ok-fixed.ensures ∙ (none_told f tokens
+          ∙ told_open f tokens 0 c.open_front-front.result (omega arith) (λ i d more less. ap (fixed_by arena (get_or tokens i d).id.0) (c.open_front-front.ensures.open_gaps i d less)));
     }
 
 pub tell_eight-requires : goal.tell_eight-requires
