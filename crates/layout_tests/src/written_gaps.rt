@@ -5,7 +5,7 @@ ghost use Rattle.style_table.specs.Range.{IsInRange};
 use crate::comparing::same;
 use crate::fixtures::style;
 use fmt_ports::TextSink;
-use replacements::{Decision, short_lines, write_gap};
+use replacements::{Decision, write_gap};
 use std::alloc::Global;
 use std::process::Abort;
 use style_table::{Style, UseTab};
@@ -156,21 +156,34 @@ fn writes_what_was_decided(rt: HostRuntime) {
     }
 }
 
-/// A use of tabs, whether lines end in two bytes, how many there are, the column, and what is told at once.
-const SHORT: &[(&str, UseTab, bool, u32, u32, Option<&[u8]>)] = &[
-    ("one line end", UseTab::Never, false, 1, 3, Some(b"\n   ")),
-    ("two line ends", UseTab::Never, false, 2, 0, Some(b"\n\n")),
-    ("three line ends", UseTab::Never, false, 3, 0, None),
-    ("many columns", UseTab::Never, false, 1, 65, None),
-    ("carriage returns", UseTab::Never, true, 1, 3, None),
-    ("tabs", UseTab::Always, false, 1, 3, None),
+/// Line ends with columns and no level: how tabs are used, whether lines end in two bytes, how many there are, the
+/// column, and what is written.
+const LINES: &[(&str, UseTab, bool, u32, u32, &[u8])] = &[
+    ("one line end", UseTab::Never, false, 1, 3, b"\n   "),
+    ("two line ends", UseTab::Never, false, 2, 0, b"\n\n"),
+    ("three line ends", UseTab::Never, false, 3, 0, b"\n\n\n"),
+    (
+        "many columns",
+        UseTab::Never,
+        false,
+        1,
+        65,
+        b"\n                                                                 ",
+    ),
+    ("carriage returns", UseTab::Never, true, 1, 3, b"\r\n   "),
+    ("tabs", UseTab::Always, false, 1, 5, b"\n\t "),
 ];
 
 #[test]
-fn tells_short_lines_in_one_piece(rt: HostRuntime) {
-    for case in SHORT {
+fn writes_lines_without_a_level(rt: HostRuntime) {
+    for case in LINES {
         let (name, use_tab, crlf, count, column, want) = *case;
-        let style = tabbed(&rt, use_tab);
-        same(&rt, name, short_lines(&style, crlf, count, column), want);
+        let decision = Decision::Lines {
+            count,
+            column,
+            level: 0,
+        };
+        let text = written(&rt, rt.alloc(), use_tab, crlf, decision);
+        same(&rt, name, text.as_slice(), want);
     }
 }

@@ -6,7 +6,6 @@
 mod short;
 mod white;
 
-pub use short::short_lines;
 pub(crate) use short::{LinesPiece, lines_front};
 pub use white::write_gap;
 

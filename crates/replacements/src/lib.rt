@@ -22,7 +22,7 @@ mod stance;
 mod written;
 
 pub use free_gaps::{keeps_marks_away, rewrites_free_gaps};
-pub use gap_text::{Decision, short_lines, write_gap};
+pub use gap_text::{Decision, write_gap};
 pub use guard::{Guard, guard_of, is_behind_backslash};
 pub use laws::{decisions_stay, first_decision_stands};
 pub use line_tokens::{Fixed, NoMemory};

@@ -109,7 +109,14 @@ fn entry_of(slot: Slot, apart: &mut Vec<Slot, &Bump>) -> Entry
 {
     match Entry::of(slot) {
         Some(entry) => entry,
-        None => set_apart(apart, slot),
+        // A slot of its own, so that one whose entry has room never lies in memory.
+        None => set_apart(
+            apart,
+            Slot {
+                decision: slot.decision,
+                end: slot.end,
+            },
+        ),
     }
 }
 

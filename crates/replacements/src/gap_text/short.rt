@@ -80,12 +80,3 @@ pub(crate) fn lines_front(style: &Style, crlf: bool, count: u32, column: u32) ->
     }
     None
 }
-
-/// So many line ends and then indentation up to a column, whatever the level, where they are one piece.
-pub fn short_lines(style: &Style, crlf: bool, count: u32, column: u32) -> Option<&'static [u8]>
-    ensures { IfSome result
-        (λ piece. (own : ℕ) → piece.now ≡ line_ends crlf count ++ indentation style.now own column) }
-{
-    let piece = lines_front(style, crlf, count, column)?;
-    Some(&piece.bytes[..piece.len])
-}

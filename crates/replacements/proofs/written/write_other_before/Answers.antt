@@ -15,7 +15,7 @@ returns-then-stays-clause-ok g c =
     let arena = c.args.arena.now in
     let walk = c.args.walk.now in
     let place = c.args.place in
-    let token = told_by c.args.token.now in
+    let token = told_by c.args.token in
     let decision = decision_at c.args.plan.now place in
     let old : is_old decision ≡ true = ap is_old (sym c.decision_at-decision.ensures) ∙ (sym c.stays.ensures ∙ c.if-stays.true) in (
       [],
