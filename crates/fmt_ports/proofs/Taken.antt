@@ -1,10 +1,9 @@
 -- What a source that tells its bytes gave, and what a sink took of some bytes.
-use Rattle.std.proofs.Common.{◌≡◌, ◌∙◌, ℕ, suc, ◌+◌, ◌-◌, ◌≤◌, List, [], ◌∷◌, ◌++◌, Result, Ok, Err, OnOk, IfOk, length, take, drop, refl, sym, subst, ap, arith}
+use Rattle.std.proofs.Common.{◌≡◌, ◌∙◌, ℕ, ◌+◌, ◌-◌, ◌≤◌, List, [], ◌++◌, Result, Ok, Err, OnOk, IfOk, length, take, drop, refl, sym, subst, ap, arith}
 use Rattle.std.specs.List.{slice_range}
-use Rattle.std.specs.Prelude.{is_err, is_ok, false, if◌then◌else◌}
 use Rattle.std.specs.declared.option.Option.{Option}
-use Rattle.std.proofs.lemmas.List.{length-append, length-take, take-append-drop, take_all, take-take, drop-append-le}
-use Rattle.std.proofs.Math.Seq.{take-add}
+use Rattle.std.proofs.lemmas.List.{drop-append-le, drop-drop, drop-take, length-append, length-drop, length-take, length-take-le, take-append-drop, take-append-le, take_all, take-take}
+use Rattle.std.proofs.Math.Seq.{take-add, take-append-add}
 use Rattle.std.specs.Io.KnownBytes.{Appends, Consumes}
 use Rattle.std.proofs.KnownBytes.{Appends-trans, Consumes-trans}
 use Rattle.fmt_ports.specs.Causes.{AppendsPart}
@@ -49,17 +48,42 @@ all_taken a b n bytes (Err e) came all = tt
 pub front_taken : (a b : Option (List ℕ)) (n : ℕ) (bytes : List ℕ) → Appends a b (take n bytes) → AppendsPart a b bytes
 front_taken a b n bytes came = (take n bytes, drop n bytes, sym (take-append-drop n bytes), came)
 
-take_past : (first rest : List ℕ) (n : ℕ) → take (length first + n) (first ++ rest) ≡ first ++ take n rest
-take_past [] rest n = let none : length {A = ℕ} [] + n ≡ n = omega arith in rw none refl
-take_past (x ∷ first) rest n =
-    let more : length (x ∷ first) + n ≡ suc (length first + n) = omega arith in
-    rw more (ap (λ l. x ∷ l) (take_past first rest n))
+-- ## What a room holds: the bytes from one place up to another
 
--- behind what is held come the first of more bytes
-pub front_added : (items bytes : List ℕ) (sent count : ℕ) → sent ≤ length items → drop sent (take (length items + count) (items ++ bytes)) ≡ drop sent items ++ take count bytes
-front_added items bytes sent count within = ap (drop sent) (take_past items bytes count) ∙ drop-append-le sent items (take count bytes) within
+-- behind what is held come the first of more bytes, all of which are copied there
+pub front_added : (items bytes behind : List ℕ) (sent end count : ℕ) → sent ≤ end → end ≤ length items → count ≤ length bytes
+    → slice_range (take end items ++ (bytes ++ behind)) sent (end + count) ≡ slice_range items sent end ++ take count bytes
+front_added items bytes behind sent end count first within few =
+    let front : List ℕ = take end items in
+    let rest : List ℕ = bytes ++ behind in
+    let long : length front ≡ end = length-take-le end items within in
+    let far : sent ≤ length front = omega (arith, first, long) in
+    let held : List ℕ = drop sent front in
+    let len : length held ≡ end - sent = length-drop sent front ∙ ap (λ (n : ℕ). n - sent) long in
+    let whole : (end + count) - sent ≡ length held + count = omega (arith, first, len) in
+    let split : sent + (end - sent) ≡ end = omega (arith, first) in
+    let is : held ≡ slice_range items sent end = ap (λ (n : ℕ). drop sent (take n items)) (sym split) ∙ drop-take sent (end - sent) items in
+    ap (λ (l : List ℕ). take ((end + count) - sent) l) (drop-append-le sent front rest far)
+    ∙ (ap (λ (n : ℕ). take n (held ++ rest)) whole
+    ∙ (take-append-add held rest count
+    ∙ (ap (λ (l : List ℕ). held ++ l) (take-append-le count bytes behind few)
+    ∙ ap (λ (l : List ℕ). l ++ take count bytes) is)))
 
--- a row to which more was added without want of memory
-pub added : {T E : Type 0} (result : Result T E) (items more new : List ℕ) → is_err result ≡ false → new ≡ (if is_ok result then items ++ more else items) → new ≡ items ++ more
-added (Ok v) items more new fine is = is
-added (Err e) items more new fine is = cc
+-- how many bytes are held
+pub held_length : (items : List ℕ) (sent end : ℕ) → end ≤ length items → length (slice_range items sent end) ≡ end - sent
+held_length items sent end within =
+    let left : length (drop sent items) ≡ length items - sent = length-drop sent items in
+    length-take-le (end - sent) (drop sent items) (omega (arith, within, left))
+
+-- those that stay held where the first of them go
+pub rest_held : (items : List ℕ) (sent end count : ℕ) → sent + count ≤ end → slice_range items (sent + count) end ≡ drop count (slice_range items sent end)
+rest_held items sent end count within =
+    let more : count + (end - (sent + count)) ≡ end - sent = omega (arith, within) in
+    ap (λ (l : List ℕ). take (end - (sent + count)) l) (sym (drop-drop count sent items))
+    ∙ (sym (drop-take count (end - (sent + count)) (drop sent items)) ∙ ap (λ (n : ℕ). drop count (take n (drop sent items))) more)
+
+-- all went
+pub none_held : (items : List ℕ) (sent end count : ℕ) → sent + count ≡ end → [] ≡ drop count (slice_range items sent end)
+none_held items sent end count is =
+    let none : end - (sent + count) ≡ 0 = omega (arith, is) in
+    ap (λ (n : ℕ). take n (drop (sent + count) items)) (sym none) ∙ rest_held items sent end count (omega (arith, is))

@@ -1,6 +1,7 @@
 //! Room for bytes that are collected.
 
 ghost use Rattle.std.specs.Prelude.{◌≡◌, ◌≤◌, ℕ, List, [], ◌++◌, IsFalse, IsTrue, drop, length, take};
+ghost use Rattle.std.specs.List.{slice_range};
 
 use std::alloc::{AllocError, Global};
 use std::marker::Model;
@@ -12,16 +13,17 @@ pub const PIECE: usize = 65_536;
 #[derive(Drop)]
 pub(crate) struct Room {
     bytes: Vec<u8>,
-    // The bytes from `sent` on are held.
+    // The bytes from `sent` up to `end` are held.
     sent: usize,
+    end: usize,
 }
 
 impl Model for Room {
     ghost Value = { List ℕ };
 
-    ghost view = { λ room. drop room.sent room.bytes.items };
+    ghost view = { λ room. slice_range room.bytes.items room.sent room.end };
 
-    ghost invariant = { λ room. room.sent ≤ length room.bytes.items };
+    ghost invariant = { λ room. (room.sent ≤ room.end) × (room.end ≤ length room.bytes.items) };
 }
 
 impl Room {
@@ -29,18 +31,22 @@ impl Room {
     pub(crate) fn new(alloc: Global) -> Room
         ensures { result ≡ [] }
     {
-        let bytes = match Vec::with_capacity(alloc, PIECE) {
+        let bytes = match vec![in alloc; 0u8; PIECE] {
             Ok(bytes) => bytes,
             Err(AllocError) => Vec::new(alloc),
         };
-        Room { bytes, sent: 0 }
+        Room {
+            bytes,
+            sent: 0,
+            end: 0,
+        }
     }
 
     /// The bytes that it holds.
     pub(crate) fn held(&self) -> &[u8]
         ensures { result.now ≡ self.now }
     {
-        &self.bytes[self.sent..]
+        &self.bytes[self.sent..self.end]
     }
 
     /// Takes bytes, all where they find room behind those that it holds, and none otherwise.
@@ -49,10 +55,7 @@ impl Room {
         ensures added { IsTrue result → self.new ≡ self.old ++ bytes.now }
         ensures kept { IsFalse result → self.new ≡ self.old }
     {
-        if bytes.len() > self.bytes.capacity() - self.bytes.len() {
-            return false;
-        }
-        self.bytes.extend_from_slice(bytes).is_ok()
+        self.try_add_front(bytes, bytes.len())
     }
 
     /// Takes the first of some bytes, so many of them, where all find room behind those that it holds, and none
@@ -63,14 +66,12 @@ impl Room {
         ensures added { IsTrue result → self.new ≡ self.old ++ take count bytes.now }
         ensures kept { IsFalse result → self.new ≡ self.old }
     {
-        let len = self.bytes.len();
-        if bytes.len() > self.bytes.capacity() - len {
+        let end = self.end;
+        if bytes.len() > self.bytes.len() - end {
             return false;
         }
-        if self.bytes.extend_from_slice(bytes).is_err() {
-            return false;
-        }
-        self.bytes.truncate(len + count);
+        self.bytes[end..end + bytes.len()].copy_from_slice(bytes);
+        self.end = end + count;
         true
     }
 
@@ -80,9 +81,9 @@ impl Room {
         ensures { self.new ≡ drop count self.old }
     {
         self.sent += count;
-        if self.sent == self.bytes.len() {
+        if self.sent == self.end {
             self.sent = 0;
-            self.bytes.clear();
+            self.end = 0;
         }
     }
 }
