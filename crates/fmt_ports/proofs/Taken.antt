@@ -1,6 +1,7 @@
 -- What a source that tells its bytes gave, and what a sink took of some bytes.
-use Rattle.std.proofs.Common.{◌≡◌, ◌∙◌, ℕ, ◌+◌, ◌-◌, ◌≤◌, List, [], ◌++◌, Result, Ok, Err, OnOk, IfOk, length, take, drop, refl, sym, subst, ap, arith}
+use Rattle.std.proofs.Common.{◌≡◌, ◌∙◌, ℕ, ◌+◌, ◌-◌, ◌≤◌, List, ◌++◌, Result, Ok, Err, OnOk, IfOk, length, take, drop, sym, subst, ap, arith}
 use Rattle.std.specs.List.{slice_range}
+use Rattle.std.specs.Prelude.{is_ok, if◌then◌else◌}
 use Rattle.std.specs.declared.option.Option.{Option}
 use Rattle.std.proofs.lemmas.List.{drop-append-le, drop-drop, drop-take, length-append, length-drop, length-take, length-take-le, take-append-drop, take-append-le, take_all, take-take}
 use Rattle.std.proofs.Math.Seq.{take-add, take-append-add}
@@ -82,8 +83,15 @@ rest_held items sent end count within =
     ap (λ (l : List ℕ). take (end - (sent + count)) l) (sym (drop-drop count sent items))
     ∙ (sym (drop-take count (end - (sent + count)) (drop sent items)) ∙ ap (λ (n : ℕ). drop count (take n (drop sent items))) more)
 
--- all went
-pub none_held : (items : List ℕ) (sent end count : ℕ) → sent + count ≡ end → [] ≡ drop count (slice_range items sent end)
-none_held items sent end count is =
-    let none : end - (sent + count) ≡ 0 = omega (arith, is) in
-    ap (λ (n : ℕ). take n (drop (sent + count) items)) (sym none) ∙ rest_held items sent end count (omega (arith, is))
+-- what is held stays so where the room is widened
+pub held_wider : (items more : List ℕ) (sent end : ℕ) → sent ≤ end → end ≤ length items → slice_range (items ++ more) sent end ≡ slice_range items sent end
+held_wider items more sent end first within =
+    let left : length (drop sent items) ≡ length items - sent = length-drop sent items in
+    ap (λ (l : List ℕ). take (end - sent) l) (drop-append-le sent items more (omega (arith, first, within)))
+    ∙ take-append-le (end - sent) (drop sent items) more (omega (arith, within, left))
+
+-- and where it may be
+pub held_still : {T E : Type 0} (result : Result T E) (items more new : List ℕ) (sent end : ℕ) → sent ≤ end → end ≤ length items → new ≡ (if is_ok result then items ++ more else items)
+    → slice_range new sent end ≡ slice_range items sent end
+held_still (Ok v) items more new sent end first within is = ap (λ (l : List ℕ). slice_range l sent end) is ∙ held_wider items more sent end first within
+held_still (Err e) items more new sent end first within is = ap (λ (l : List ℕ). slice_range l sent end) is

@@ -59,6 +59,24 @@ impl<'k, K: Sink> Pieces<'k, K> {
         self.out.write(bytes)
     }
 
+    /// Takes bytes for which what is ready of the room hasn't enough left.
+    #[cold]
+    #[inline(never)]
+    fn add_widened(&mut self, bytes: &[u8]) -> Result<usize, Failed>
+        ensures same_sink { self.new.out.ghost_name ≡ self.old.out.ghost_name }
+        ensures bound { WritesAtMost result bytes.now }
+        ensures some { 0 < length bytes.now → IfOk result (λ n. 0 < n) }
+        ensures bytes { WriteAppends (taken_by K.taken self.old) (taken_by K.taken self.new) result bytes.now }
+        ensures grows { Grows (K.taken self.old.out.now) (K.taken self.new.out.now) }
+        ensures counts { Counts (K.faults self.old.out.now) (K.faults self.new.out.now) result }
+    {
+        self.room.widen();
+        if self.room.try_add(bytes) {
+            return Ok(bytes.len());
+        }
+        self.add_behind(bytes)
+    }
+
     /// Takes bytes: into the room, where it has enough left.
     #[inline(always)]
     fn add(&mut self, bytes: &[u8]) -> Result<usize, Failed>
@@ -72,7 +90,7 @@ impl<'k, K: Sink> Pieces<'k, K> {
         if self.room.try_add(bytes) {
             return Ok(bytes.len());
         }
-        self.add_behind(bytes)
+        self.add_widened(bytes)
     }
 
     /// Takes the first of some bytes, so many of them.
@@ -90,7 +108,7 @@ impl<'k, K: Sink> Pieces<'k, K> {
         if self.room.try_add_front(bytes, count) {
             return Ok(count);
         }
-        self.add_behind(&bytes[..count])
+        self.add_widened(&bytes[..count])
     }
 }
 

@@ -9,9 +9,13 @@ use std::marker::Model;
 /// How many bytes a piece has at most, a single write of more aside: what a pipe holds.
 pub const PIECE: usize = 65_536;
 
+/// What a room is widened by: a page of memory.
+const STEP: [u8; 4096] = [0; 4096];
+
 /// Room for a piece. Contracts see the bytes that it holds.
 #[derive(Drop)]
 pub(crate) struct Room {
+    // What is ready. Memory is reserved for a piece.
     bytes: Vec<u8>,
     // The bytes from `sent` up to `end` are held.
     sent: usize,
@@ -31,7 +35,7 @@ impl Room {
     pub(crate) fn new(alloc: Global) -> Room
         ensures { result ≡ [] }
     {
-        let bytes = match vec![in alloc; 0u8; PIECE] {
+        let bytes = match Vec::with_capacity(alloc, PIECE) {
             Ok(bytes) => bytes,
             Err(AllocError) => Vec::new(alloc),
         };
@@ -47,6 +51,15 @@ impl Room {
         ensures { result.now ≡ self.now }
     {
         &self.bytes[self.sent..self.end]
+    }
+
+    /// Makes more ready, where memory is reserved for more. What isn't ready isn't touched, so that a short text touches
+    /// little memory.
+    pub(crate) fn widen(&mut self)
+        ensures { self.new ≡ self.old }
+    {
+        let left = self.bytes.capacity() - self.bytes.len();
+        let _ = self.bytes.extend_from_slice(&STEP[..left.min(STEP.len())]);
     }
 
     /// Takes bytes, all where they find room behind those that it holds, and none otherwise.
