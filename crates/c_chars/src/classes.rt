@@ -5,8 +5,9 @@ ghost use Rattle.std.specs.List.{list_all, prefix_len};
 ghost use Rattle.c_chars.specs.Characters.{are_words, is_plain, is_quiet_byte, is_quiet_comment, is_row_byte};
 ghost use Rattle.c_chars.specs.Characters.{is_space_byte, is_word_byte};
 
-use crate::lanes::{ByteClass, CommentBytes, QuietBytes, QuietCommentBytes, RowBytes, SpaceBytes};
-use crate::lanes::WordBytes;
+use crate::lanes::{
+    ByteClass, CommentBytes, QuietBytes, QuietCommentBytes, RowBytes, SpaceBytes, WordBytes,
+};
 use std::simd::prelude::*;
 
 /// What a table tells of a byte.

@@ -36,7 +36,7 @@ loop-hashes-preserved c =
     let long : start + length line ≡ end = range_long arena.tokens start end (omega (arith, c.line_end-at.ensures.behind)) c.line_end-at.ensures.within in
     let order : c.loop-hashes.from ≤ start = omega (arith, v.order, c.line_start-start.ensures.from) in
     let skipped = ahead_text arena.dialect arena.tokens c.loop-hashes.from c.loop-hashes.at start c.loop-hashes.hashes.now v.within v.left c.in-len1-up.len_at_least c.if-hash-at.false c.line_start-start.ensures.from c.line_start-start.ensures.most
-        c.line_start-start.ensures.begins v.order in
+    c.line_start-start.ensures.begins v.order in
     let text = text_line arena.dialect arena.tokens line c.loop-hashes.from start end c.line_end-at.ensures.line long c.line_end-at.ensures.behind order c.in_default-directive_in.ensures in
     record {
       order = omega (arith, order, c.line_end-at.ensures.behind);
@@ -55,7 +55,7 @@ loop-hashes-preserved-in-Some c =
     let long : start + length line ≡ end = range_long arena.tokens start end (omega (arith, c.line_end-at.ensures.behind)) c.line_end-at.ensures.within in
     let order : c.loop-hashes.from ≤ start = omega (arith, v.order, c.line_start-start.ensures.from) in
     let skipped = ahead_text arena.dialect arena.tokens c.loop-hashes.from c.loop-hashes.at start c.loop-hashes.hashes.now v.within v.left c.in-len1-up.len_at_least c.if-hash-at.false c.line_start-start.ensures.from c.line_start-start.ensures.most
-        c.line_start-start.ensures.begins v.order in
+    c.line_start-start.ensures.begins v.order in
     let rest = sections_from arena.dialect end (lines_of (drop end arena.tokens)) in
     let dir = c.in-Some.directive in
     let whole = directive_line arena.dialect arena.tokens line c.loop-hashes.from start end dir c.line_end-at.ensures.line long c.in-Some.ensures in
