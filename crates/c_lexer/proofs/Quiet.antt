@@ -1,5 +1,5 @@
 -- Literals and comments of quiet bytes, cut off where plain ones end them.
-use Rattle.std.proofs.Common.{◌≡◌, ◌==◌, ◌&&◌, ◌∙◌, Bool, true, false, ℕ, suc, ◌+◌, List, [], ◌∷◌, ◌++◌, length, nat_eq, nat_le, refl, sym, ap, append_assoc, arith}
+use Rattle.std.proofs.Common.{◌≡◌, ◌==◌, ◌&&◌, ◌∙◌, Bool, true, false, ℕ, suc, ◌+◌, List, [], ◌∷◌, ◌++◌, length, get_or, nat_eq, nat_le, refl, sym, ap, append_assoc, arith}
 use Rattle.std.specs.Prelude.{Some, slice_get}
 use Rattle.std.specs.List.{list_all, starts_with}
 use Rattle.std.proofs.lemmas.Bool.{and_from, and_parts, eq-eqb, ne_eqb}
@@ -186,15 +186,19 @@ line_own_byte : (b : ℕ) → is_quiet_comment b ≡ true → is_own_byte b ≡ 
 unfolding is_quiet_comment is_comment_byte is_comment_ink is_space_byte is_own_byte
 line_own_byte b h = grind (arith, nat_tests)
 
-pub quiet_line : (x z t y : Coming) (f c e : LogicalChar) → IsBegun x f z → f.byte ≡ 47 → slice_get z.chars 0 ≡ Some c → c.byte ≡ 47 → t ≡ behind z 1 → AreWordsPassed t y → slice_get y.chars 0 ≡ Some e → is_new_line e.byte ≡ true
+none_more : (s : List ℕ) → is_new_line (get_or s 0 0) ≡ true → line_len 47 s ≡ 0
+none_more [] ends = refl
+none_more (b ∷ s) ends = rw ends refl
+
+pub quiet_line : (x z t y : Coming) (f c : LogicalChar) → IsBegun x f z → f.byte ≡ 47 → slice_get z.chars 0 ≡ Some c → c.byte ≡ 47 → t ≡ behind z 1 → AreWordsPassed t y → is_new_line (get_or (bytes_of y.chars) 0 0) ≡ true
     → IsCutOff x y LineComment
-quiet_line x z t y f c e begun f_is second c_is t_is passed next ends =
+quiet_line x z t y f c begun f_is second c_is t_is passed ends =
     let slash = eq-eqb 47 f.byte (sym f_is) in
     let other = eq-eqb 47 c.byte (sym c_is) in
     let chars = begun.chars_are ∙ ap (λ s. f ∷ s) (next_passed z.dialect z.at z.chars c second).0 in
     let begins : starts_with nat_eq (bytes_of x.chars) (47 ∷ 47 ∷ []) ≡ true = ap (λ s. starts_with nat_eq (bytes_of s) (47 ∷ 47 ∷ [])) chars ∙ rw (slash, other) refl in
     let two : t ≡ behind x 2 = t_is ∙ (ap (λ w. behind w 1) (one_behind x z f begun) ∙ behind_again x 1 1) in
-    let none : line_len 47 (bytes_of y.chars) ≡ 0 = ap (λ s. line_len 47 (bytes_of s)) (next_passed y.dialect y.at y.chars e next).0 ∙ rw ends refl in
+    let none : line_len 47 (bytes_of y.chars) ≡ 0 = none_more (bytes_of y.chars) ends in
     line_off x t y begins two (sym (ap (λ n. behind y n) none) ∙ passed_line 47 t y refl passed)
 
 pub quiet_line_own : (z t y : Coming) (f c : LogicalChar) → f.byte ≡ 47 → slice_get z.chars 0 ≡ Some c → c.from ≡ z.at → c.to ≡ z.at + 1 → c.byte ≡ 47 → t ≡ behind z 1 → AreBytesPassed is_quiet_comment t y → AreOwnBytes f z y

@@ -112,7 +112,7 @@ pub(crate) fn cut_plain_block<'s>(begun: &Begun<'s>, second: LogicalChar) -> Opt
 }
 
 /// What stands behind the line comment that is begun, where it has only printable bytes that tell nothing else and a
-/// plain new-line stands behind the last that is no space; none elsewhere. `second` is the character behind its first.
+/// new-line stands behind the last that is no space; none elsewhere. `second` is the character behind its first.
 #[inline(always)]
 pub(crate) fn cut_plain_line<'s>(begun: &Begun<'s>, second: LogicalChar) -> Option<Chars<'s>>
     requires begun { IsBegun begun.now.text begun.now.first begun.now.behind }
@@ -126,8 +126,7 @@ pub(crate) fn cut_plain_line<'s>(begun: &Begun<'s>, second: LogicalChar) -> Opti
     }
     let mut left = front::behind(&begun.behind, 1);
     left.pass_quiet_words();
-    let end = left.peek_plain()?;
-    if bytes::is_new_line(end.byte) {
+    if bytes::is_new_line(front::byte_at(&left, 0)) {
         Some(left)
     } else {
         None
