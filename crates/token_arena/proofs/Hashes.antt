@@ -1,7 +1,7 @@
 -- The items that may be a `#`: none of the others is one, and lines without them are text.
 use Rattle.std.proofs.Common.{◌≡◌, ◌∙◌, ◌==◌, ◌||◌, ◌&&◌, ◌⊎◌, ℕ, zero, suc, ◌+◌, ◌-◌, ◌<◌, ◌≤◌, inl, inr, Bool, true, false, None, List, [], ◌∷◌, ◌++◌, length, take, drop, get_or, refl, sym, ap, subst, arith}
-use Rattle.std.specs.Prelude.{nat_lt, if◌then◌else◌}
-use Rattle.std.specs.List.{list_any, slice_index_or}
+use Rattle.std.specs.Prelude.{nat_le, nat_lt, if◌then◌else◌}
+use Rattle.std.specs.List.{list_all, list_any, slice_index_or}
 use Rattle.std.proofs.lemmas.Bool.{and_from, and_parts, both_ways, cases_Bool, or_parts}
 use Rattle.std.proofs.lemmas.Bool.Decides.{nat_tests}
 use Rattle.std.proofs.Math.ListN.{drop_of_length-le}
@@ -46,6 +46,19 @@ hash_first d (b ∷ raw) h = elim (cases_Bool (is_plain b)) [
   | inl y ↦ first_of b (is_same (read_alone d raw) []) (is_same (read_alone d raw) (58 ∷ [])) (subst (λ s. is_hash s ≡ true) (plain_alone d b raw y) h)
   | inr n ↦ written_of b n
 ]
+
+plain_byte : (b : ℕ) → is_plain b ≡ true → nat_le b 37 ≡ may_spell_hash b
+unfolding may_spell_hash
+plain_byte b h = grind (arith, nat_tests)
+
+-- bytes that are characters by themselves spell one only where the first is small
+pub plain_hash : (s : List ℕ) → list_all is_plain s ≡ true → nat_le (get_or s 0 0) 37 ≡ may_spell_hash (get_or s 0 0)
+plain_hash [] h = sym nothing_of
+plain_hash (b ∷ s) h = plain_byte b (and_parts (is_plain b) (list_all is_plain s) h).0
+
+pub empty_hash : (s : List ℕ) → length s < 1 → true ≡ may_spell_hash (get_or s 0 0)
+empty_hash [] none = sym nothing_of
+empty_hash (b ∷ s) none = absurd (omega (arith, none))
 
 hash_likely : (d : Dialect) (t : Stored) → is_hash_token d t ≡ true → is_likely_hash t ≡ true
 hash_likely d t h =

@@ -1,6 +1,9 @@
 //! Reads a text into an arena.
 
-ghost use Rattle.std.specs.Prelude.{◌≡◌, ◌<◌, ◌≤◌, ◌+◌, ◌^◌, ◌∷◌, ◌++◌, [], length, IfOk, IfErr, if◌then◌else◌};
+ghost use Rattle.std.specs.Prelude.{◌≡◌, ◌<◌, ◌≤◌, ◌+◌, ◌^◌, ◌∷◌, ◌++◌, [], length, IfOk, IfErr, IsTrue};
+ghost use Rattle.std.specs.Prelude.{if◌then◌else◌};
+ghost use Rattle.std.specs.List.{list_all};
+ghost use Rattle.c_chars.specs.Characters.{is_plain};
 ghost use Rattle.c_grammar.specs.Fitting.{is_comment};
 ghost use Rattle.c_chars.specs.declared.TheConstants.{LIMIT};
 ghost use Rattle.token_arena.specs.Building.{IsArenaOf, IsCause};
@@ -45,20 +48,29 @@ fn may_be_hash(kind: ItemKind, raw: &[u8]) -> bool
     }
 }
 
-/// Notes the number of an item of this kind and these bytes, where it may be a `#`.
+/// The same, where each of the bytes is a character by itself.
 #[inline(always)]
-fn note_hash(
-    hashes: &mut Vec<u32, &Bump>,
-    kind: ItemKind,
-    raw: &[u8],
-    id: usize,
-) -> Result<(), ArenaFault>
+fn may_be_plain_hash(kind: ItemKind, raw: &[u8]) -> bool
+    requires { IsTrue (list_all is_plain raw.now) }
+    ensures { result ≡ may_be_hash kind raw.now }
+{
+    if !matches!(kind, ItemKind::Punct) {
+        return false;
+    }
+    match raw {
+        [first, ..] => *first <= b'%',
+        _ => true,
+    }
+}
+
+/// Notes the number of an item, where it may be a `#`.
+#[inline(always)]
+fn note_hash(hashes: &mut Vec<u32, &Bump>, likely: bool, id: usize) -> Result<(), ArenaFault>
     requires { id < 2 ^ 32 }
-    ensures ok { IfOk result
-        (λ _. hashes.new.items ≡ hashes.old.items ++ (if may_be_hash kind raw.now then id ∷ [] else [])) }
+    ensures ok { IfOk result (λ _. hashes.new.items ≡ hashes.old.items ++ (if likely then id ∷ [] else [])) }
     ensures err { IfErr result (λ fault. fault ≡ NoMemory) }
 {
-    if may_be_hash(kind, raw) {
+    if likely {
         hashes.push(id as u32)?;
     }
     Ok(())
@@ -88,7 +100,8 @@ fn entries_of<'a>(bump: &'a Bump, text: &[u8], dialect: Dialect) -> Result<Kept<
         if let Some(lexeme) = lexer.next_plain_lexeme() {
             let id = entries.len();
             note_comment(&mut comments, lexeme.item.kind, id)?;
-            note_hash(&mut hashes, lexeme.item.kind, lexeme.item.raw, id)?;
+            let likely = may_be_plain_hash(lexeme.item.kind, lexeme.item.raw);
+            note_hash(&mut hashes, likely, id)?;
             entries.push(entry_of(&lexeme, gap, Told::Itself))?;
             continue;
         }
@@ -98,7 +111,8 @@ fn entries_of<'a>(bump: &'a Bump, text: &[u8], dialect: Dialect) -> Result<Kept<
             Ok(Some(lexeme)) => {
                 let id = entries.len();
                 note_comment(&mut comments, lexeme.item.kind, id)?;
-                note_hash(&mut hashes, lexeme.item.kind, lexeme.item.raw, id)?;
+                let likely = may_be_hash(lexeme.item.kind, lexeme.item.raw);
+                note_hash(&mut hashes, likely, id)?;
                 entries.push(entry_of(&lexeme, gap, told_by_bytes(lexeme.item.raw)))?;
                 lexer = other;
             }

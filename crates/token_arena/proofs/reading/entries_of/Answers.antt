@@ -1,10 +1,10 @@
-use Rattle.std.proofs.Common.{◌≡◌, ◌∙◌, ◌<◌, length, sym, subst, ap, arith}
+use Rattle.std.proofs.Common.{◌≡◌, ◌∙◌, ◌<◌, ◌++◌, length, sym, subst, ap, arith}
 use Rattle.c_chars.specs.Characters.{mark_len}
 use Rattle.c_lexer.specs.Reading.{Reading}
 use Rattle.token_arena.specs.declared.facts.Told.{Told}
 use Rattle.token_arena.proofs.KeptLemmas.{IsKeptUpTo, kept_begun, kept_ended}
 use Rattle.token_arena.proofs.NextLemmas.{hash_noted, next_behind, next_kept_behind, few_kept, kept_within, at_some, at_none}
-use Rattle.token_arena.proofs.Remarks.{remark_pushed}
+use Rattle.token_arena.proofs.Remarks.{remark_of, remark_pushed}
 use Rattle.token_arena.specs.Entries.{comments_kept, keeps_comment, kept_by_all}
 use Rattle.token_arena.specs.Hashes.{hashes_from}
 use Rattle.c_grammar.specs.Fitting.{is_comment}
@@ -64,7 +64,8 @@ loop-lexeme-preserved-in-Some c =
       marks =
           rw c.in_ok-push.ensures.items
           (hash_noted _ _ _ _ c.loop-lexeme.entries.items c.in-Some.lexeme c.loop-lexeme.invariant.text_stays c.loop-lexeme.invariant.kept c.in-Some.ensures.some Told.Itself c.at-gap.result c.entry_of.result c.entry_of.ensures
-          c.loop-lexeme.hashes.items c.note_hash.new.hashes.items c.len-id.result c.loop-lexeme.invariant.marks count c.in_ok-note_hash.ensures.ok);
+          c.loop-lexeme.hashes.items c.note_hash.new.hashes.items c.len-id.result c.loop-lexeme.invariant.marks count
+          (c.in_ok-note_hash.ensures.ok ∙ ap (λ b. c.loop-lexeme.hashes.items ++ remark_of c.len-id.result b) c.may_be_plain_hash-likely.ensures));
     }
 
 -- any other item: the reader stands where it stood
@@ -126,7 +127,8 @@ loop-lexeme-preserved c =
       marks =
           rw c.in_ok-push-in-Ok-Some.ensures.items
           (hash_noted _ _ _ _ c.loop-lexeme.entries.items c.in-Ok-Some.lexeme text_is kept next c.told_by_bytes.result c.at-gap.result c.entry_of-in-Ok-Some.result c.entry_of-in-Ok-Some.ensures
-          c.loop-lexeme.hashes.items c.note_hash-in-Ok-Some.new.hashes.items c.len-id-in-Ok-Some.result c.loop-lexeme.invariant.marks count c.in_ok-note_hash-in-Ok-Some.ensures.ok);
+          c.loop-lexeme.hashes.items c.note_hash-in-Ok-Some.new.hashes.items c.len-id-in-Ok-Some.result c.loop-lexeme.invariant.marks count
+          (c.in_ok-note_hash-in-Ok-Some.ensures.ok ∙ ap (λ b. c.loop-lexeme.hashes.items ++ remark_of c.len-id-in-Ok-Some.result b) c.may_be_hash-likely.ensures));
     }
 
 pub returns-in-Ok-None-clause-entries : goal.returns-in-Ok-None-clause-entries
