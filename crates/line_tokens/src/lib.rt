@@ -46,14 +46,14 @@ pub struct LineTok {
     pub power: u8,
     /// The kind of its item.
     pub kind: ItemKind,
+    /// It may stand directly behind the item before it in the file.
+    pub touch: bool,
     /// How many round brackets, square brackets and braced lists of its line are open before it.
     pub depth: u32,
     /// The gap before it belongs to a braced list whose last token is a comma.
     pub trailing_list: bool,
     /// It is a `#` that begins no directive, or an inner comment before one.
     pub held: bool,
-    /// It may stand directly behind the item before it in the file.
-    pub touch: bool,
     /// A directive stands between the token before it and it.
     pub directive: bool,
     /// The gap before it.
