@@ -17,3 +17,6 @@ mod Beginning
 mod Answering
 mod Thrifty
 mod Passing
+mod TrailOrder
+mod Trails
+mod Descending

@@ -5,3 +5,4 @@ pub mod Jumps
 pub mod Progress
 pub mod Thrift
 pub mod Passing
+pub mod Descent
