@@ -1,6 +1,7 @@
 //! The choices that a descent has made, and the states that they led to.
 
-ghost use Rattle.std.specs.Prelude.{◌≡◌, [], ◌∷◌, IfOk, MatchOption};
+ghost use Rattle.std.specs.Prelude.{◌≡◌, ◌<◌, [], ◌∷◌, IfOk, OnOk, MatchOption};
+ghost use Rattle.std.specs.Vec.{vec_len, vec_capacity};
 ghost use Rattle.break_search.specs.Descent.{IsTop};
 
 use bumpalo::Bump;
@@ -17,6 +18,28 @@ pub(crate) struct Step {
     pub own: u64,
     /// The choice.
     pub brk: bool,
+}
+
+/// Makes room for a step. It is a call of its own, since it is seldom needed.
+#[inline(never)]
+fn make_room(steps: &mut Vec<Step, &Bump>) -> Result<(), NoMemory>
+    ensures items { steps.new.items ≡ steps.old.items }
+    ensures room { OnOk result (vec_len steps.new < vec_capacity steps.new) }
+{
+    steps.reserve(1)?;
+    Ok(())
+}
+
+/// Sees that there is room for a step.
+#[inline(always)]
+fn reserve_room(steps: &mut Vec<Step, &Bump>) -> Result<(), NoMemory>
+    ensures items { steps.new.items ≡ steps.old.items }
+    ensures room { OnOk result (vec_len steps.new < vec_capacity steps.new) }
+{
+    if steps.len() < steps.capacity() {
+        return Ok(());
+    }
+    make_room(steps)
 }
 
 /// The steps from a line's first token on. Contracts see the last one first.
@@ -44,12 +67,13 @@ impl<'r> Trail<'r> {
         })
     }
 
-    /// Adds a step.
+    /// Adds a step. It is written to its place at once: the vector's `push` would hold it ready to be handed back.
     #[inline(always)]
     pub fn push(&mut self, step: Step) -> Result<(), NoMemory>
         ensures { IfOk result (λ _. self.new ≡ step ∷ self.old) }
     {
-        self.steps.push(step)?;
+        reserve_room(&mut self.steps)?;
+        self.steps.push_reserved(step);
         Ok(())
     }
 
