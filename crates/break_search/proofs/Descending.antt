@@ -3,7 +3,8 @@ use Rattle.std.proofs.Common.{◌≡◌, ℕ, ◌+◌, ◌*◌, ◌<◌, ◌≤�
 use Rattle.std.proofs.lemmas.List.{append-nil}
 use Rattle.line_state.specs.Choices.{Leads, IsLeast, IsNotAfter}
 use Rattle.line_state.proofs.Ways.{onto, length-onto}
-use Rattle.line_state.proofs.Steps.{functional, one_more}
+use Rattle.line_state.proofs.Steps.{functional, one_more, first_index}
+use Rattle.searched_line.proofs.AheadBound.{small}
 use Rattle.break_search.proofs.Nodes.{layout_grown}
 use Rattle.break_search.specs.declared.descent.Choice.TheVariants.{Stay, Break, Back}
 use Rattle.frame_store.specs.declared.node.NodeState.{NodeState}
@@ -21,7 +22,7 @@ use Rattle.break_search.specs.Outcome.{IsTold, IsOutcome, own_cells}
 use Rattle.break_search.proofs.Answering.{told}
 use Rattle.break_search.proofs.WayBack.{onto-reverse}
 use Rattle.break_search.proofs.TrailOrder.{BeginsWith, split_stay, split_break, past_stay, past_break, stays_next, onto_tail}
-use Rattle.break_search.proofs.Trails.{on_known, on_within, on_cheap, on_index, length_choices, on_grown, leads_to, own_is, ruled_out}
+use Rattle.break_search.proofs.Trails.{index_after, low_after, on_known, on_within, on_cheap, on_index, length_choices, on_grown, leads_to, own_is, ruled_out}
 
 -- what leads to nothing is left out
 module _ (line : Line) (some : 0 < length line.tokens) (lists : List FrameList) (budget : ℕ) (f : Step) (es : List Step) (on : IsOn line lists budget f es) (old new : ℕ) (less : new ≤ old) where
@@ -236,14 +237,17 @@ taken_all steps count taken left done t all new e =
 
 -- the first token's step is where a descent begins
 pub begins : (line : Line) → 0 < length line.tokens → (lists : List FrameList) (budget : ℕ) (state : NodeState) → IsIn lists state → layout_in lists state ≡ first_layout line → state.cost ≡ 0 → (own : ℕ) → own ≡ cells_of (layout_in lists state) → own ≤ budget →
-    1 < length line.tokens → (brk : Bool) (none steps : List Step) → none ≡ [] → steps ≡ (let s : Step = record { state = state; own = own; brk = brk } in s) ∷ none → (next : ℕ) → 0 < next → IsDescent line lists budget steps 0 next Stay
-begins line some lists budget state known layout free own counts within more brk none steps en is next above =
+    1 < length line.tokens → (brk : Bool) (none steps : List Step) → none ≡ [] → steps ≡ (let s : Step = record { state = state; own = own; brk = brk } in s) ∷ none → (most : ℕ) → most ≡ least_ahead line (layout_in lists state) → (next : ℕ) → 18446744073709551615 < next → IsDescent line lists budget steps most next Stay
+begins line some lists budget state known layout free own counts within more brk none steps en is most least next above =
+    let known_least : most ≡ least_ahead line (first_layout line) = least ∙ ap (least_ahead line) layout in
     let one : steps ≡ (let s : Step = record { state = state; own = own; brk = brk } in s) ∷ [] = is ∙ ap (λ (ss : List Step). (let s : Step = record { state = state; own = own; brk = brk } in s) ∷ ss) en in
-    subst (λ (ss : List Step). IsDescent line lists budget ss 0 next Stay) (sym one) (record {
+    subst (λ (ss : List Step). IsDescent line lists budget ss most next Stay) (sym one) (record {
       trail = record { known = known; layout = layout; free = free; own = counts ∙ ap cells_of layout; within = within };
       room = omega (arith, more);
-      floor = λ w t c size l cheap. omega (arith, cheap);
-      above = above;
+      floor = λ w t c size l cheap.
+          (let last : t.index ≡ length line.tokens = omega (arith, index_after line (first_layout line) t w c l, first_index line some, size) in
+          omega (arith, cheap, known_least, low_after line (first_layout line) t w c l last));
+      above = omega (arith, above, known_least, small line (first_layout line));
       left = λ w t c size l cheap. stays_next [] w tt (omega (arith, size, more));
     })
 

@@ -18,12 +18,12 @@ use Rattle.break_search.specs.Descent.{Follows, IsRoot, IsOn, choices}
 use Rattle.break_search.proofs.Nodes.{layout_grown}
 
 -- choices place a token each
-index_after : (line : Line) (s t : Layout) (bs : List Bool) (c : ℕ) → Leads (StepOf line) s bs t c → t.index ≡ s.index + length bs
+pub index_after : (line : Line) (s t : Layout) (bs : List Bool) (c : ℕ) → Leads (StepOf line) s bs t c → t.index ≡ s.index + length bs
 index_after line s t [] c h = omega (arith, ap (λ (l : Layout). l.index) h.0)
 index_after line s t (b ∷ bs) c h = omega (arith, (one_more line s b h.0 h.1 h.3).index, index_after line h.0 t bs h.2 h.4)
 
 -- they cost at least what is known to come
-low_after : (line : Line) (s t : Layout) (bs : List Bool) (c : ℕ) → Leads (StepOf line) s bs t c → t.index ≡ length line.tokens → least_ahead line s ≤ c
+pub low_after : (line : Line) (s t : Layout) (bs : List Bool) (c : ℕ) → Leads (StepOf line) s bs t c → t.index ≡ length line.tokens → least_ahead line s ≤ c
 low_after line s t [] c h e = omega (arith, ends_at line s (sym (ap (λ (l : Layout). l.index) h.0) ∙ e))
 low_after line s t (b ∷ bs) c h e = omega (arith, step_falls line s h.0 h.1 b h.3, low_after line h.0 t bs h.2 h.4 e, h.5)
 

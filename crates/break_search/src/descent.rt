@@ -187,12 +187,14 @@ fn tell_end<'r>(
     tell(breaks.as_slice(), paid + top.state.cost, run)
 }
 
-/// Takes turns, from the step of the first token on, as many as tell most lines' breakings.
+/// Takes turns, from the step of the first token on, as many as tell most lines' breakings. The first bound is what all
+/// breakings cost at least.
 fn take_turns<'r>(
     scratch: &Bump,
     line: &SearchedLine<'_>,
     budget: u64,
     paid: u128,
+    least: u64,
     store: &mut FrameStore<'_>,
     trail: &mut Trail<'_>,
     run: &'r Bump,
@@ -201,10 +203,10 @@ fn take_turns<'r>(
     requires budget { budget < 2 ^ 62 }
     requires paid { paid ≡ first_cost line.now }
     requires small { paid ≤ 18446744073709551615 }
-    requires begins { IsDescent line.now store.old budget trail.old 0 340282366920938463463374607431768211455 Choice.Stay }
+    requires begins { IsDescent line.now store.old budget trail.old least 340282366920938463463374607431768211455 Choice.Stay }
     ensures { IfOk result (λ found. IfSome found (IsOutcome line.now budget)) }
 {
-    let mut most = 0;
+    let mut most = u128::from(least);
     let mut next = u128::MAX;
     let mut choice = Choice::Stay;
     'turns: for turned in 0..line.count() * TURNS_A_TOKEN {
@@ -249,5 +251,6 @@ pub(crate) fn descend<'r>(
         own,
         brk: true,
     })?;
-    take_turns(scratch, line, budget, paid, &mut store, &mut trail, run)
+    let least = line.least_ahead(state.index, state.column);
+    take_turns(scratch, line, budget, paid, least, &mut store, &mut trail, run)
 }
