@@ -6,7 +6,7 @@ use Rattle.line_state.proofs.Ways.{onto, length-onto}
 use Rattle.line_state.proofs.Steps.{functional, one_more, first_index}
 use Rattle.searched_line.proofs.AheadBound.{small}
 use Rattle.break_search.proofs.Nodes.{layout_grown}
-use Rattle.break_search.specs.declared.descent.Choice.TheVariants.{Stay, Break, Back}
+use Rattle.break_search.specs.declared.descent.Choice.TheVariants.{Stay, Back}
 use Rattle.frame_store.specs.declared.node.NodeState.{NodeState}
 use Rattle.frame_store.specs.Store.{FrameList, IsIn, IsGrown}
 use Rattle.line_state.specs.StoredStates.{layout_in, state_in}
@@ -15,8 +15,7 @@ use Rattle.line_state.specs.Line.{Line, gaps, first_layout, first_cost, Step as 
 use Rattle.searched_line.specs.Ahead.{least_ahead}
 use Rattle.searched_line.specs.Successors.{IsNextState, IsSuccessor, states_in}
 use Rattle.break_search.specs.declared.trail.Step.{Step}
-use Rattle.break_search.specs.declared.descent.Choice.{Choice}
-use Rattle.break_search.specs.Descent.{IsTop, IsOn, IsTrail, choices, choices_of, IsPast, AreLeft, IsAt, IsTrying, IsDescent, IsEnd, after}
+use Rattle.break_search.specs.Descent.{IsTop, IsOn, choices, choices_of, IsPast, AreLeft, IsTrying, IsDescent, IsEnd, after}
 use Rattle.break_search.specs.declared.outcome.Outcome.{Outcome}
 use Rattle.break_search.specs.Outcome.{IsTold, IsOutcome, own_cells}
 use Rattle.break_search.proofs.Answering.{told}

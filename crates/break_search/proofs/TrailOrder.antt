@@ -1,5 +1,5 @@
 -- Lists of choices that come after a prefix, or begin with it.
-use Rattle.std.proofs.Common.{◌≡◌, ℕ, ◌<◌, ◌⊎◌, inl, inr, Bool, true, false, List, [], ◌∷◌, ◌++◌, length, refl, arith, ap, sym, ◌∙◌, subst}
+use Rattle.std.proofs.Common.{◌≡◌, ◌<◌, ◌⊎◌, inl, inr, Bool, true, false, List, [], ◌∷◌, ◌++◌, length, refl, arith, ap}
 use Rattle.line_state.specs.Choices.{IsNotAfter}
 use Rattle.line_state.proofs.Ways.{onto}
 use Rattle.break_search.specs.Descent.{IsPast}

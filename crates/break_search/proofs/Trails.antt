@@ -1,7 +1,7 @@
 -- What the steps of a trail say of the breakings over them.
-use Rattle.std.proofs.Common.{◌≡◌, ℕ, ◌+◌, ◌*◌, ◌<◌, ◌≤◌, Bool, Option, Some, List, [], ◌∷◌, length, refl, arith, ap, sym, ◌∙◌, subst, suc}
+use Rattle.std.proofs.Common.{◌≡◌, ℕ, ◌+◌, ◌*◌, ◌<◌, ◌≤◌, Bool, Option, List, [], ◌∷◌, length, refl, arith, ap, sym, ◌∙◌, subst, suc}
 use Rattle.line_state.specs.Choices.{Leads}
-use Rattle.line_state.proofs.Ways.{Reached, onto, length-onto, Leads-onto}
+use Rattle.line_state.proofs.Ways.{Reached, onto, Leads-onto}
 use Rattle.line_state.proofs.Steps.{functional, one_more, first_index}
 use Rattle.frame_store.specs.declared.node.NodeState.{NodeState}
 use Rattle.frame_store.specs.Store.{FrameList, IsIn, IsGrown}
@@ -14,7 +14,7 @@ use Rattle.searched_line.specs.Successors.{IsNextState}
 use Rattle.searched_line.proofs.AheadBound.{step_falls, ends_at}
 use Rattle.break_search.specs.Outcome.{own_cells, own_cells_by}
 use Rattle.break_search.specs.declared.trail.Step.{Step}
-use Rattle.break_search.specs.Descent.{Follows, IsRoot, IsOn, choices}
+use Rattle.break_search.specs.Descent.{IsOn, choices}
 use Rattle.break_search.proofs.Nodes.{layout_grown}
 
 -- choices place a token each
@@ -63,8 +63,8 @@ on_grown line lists more grown budget f (e ∷ es) h = (
   record {
     known = omega (arith, h.0.known, grown.longer);
     leads =
-      subst (λ (l : Layout). IsNextState line l e.state.cost f.brk (state_in more f.state)) (sym (layout_grown lists more grown e.state (on_known line lists budget e es h.1)))
-      (subst (λ (s : State). IsNextState line (layout_in lists e.state) e.state.cost f.brk s) (sym (state_grown lists more grown f.state h.0.known)) h.0.leads);
+        subst (λ (l : Layout). IsNextState line l e.state.cost f.brk (state_in more f.state)) (sym (layout_grown lists more grown e.state (on_known line lists budget e es h.1)))
+        (subst (λ (s : State). IsNextState line (layout_in lists e.state) e.state.cost f.brk s) (sym (state_grown lists more grown f.state h.0.known)) h.0.leads);
     own = h.0.own ∙ ap (λ (l : Layout). e.own + cells_of l) (sym (layout_grown lists more grown f.state h.0.known));
     within = h.0.within;
   },

@@ -139,7 +139,9 @@ fn turn(
         return Ok(Descent::Stops);
     };
     match *choice {
-        Choice::Stay => go(line, budget, store, trail, *most, next, choice, &here, false),
+        Choice::Stay => go(
+            line, budget, store, trail, *most, next, choice, &here, false,
+        ),
         Choice::Break => go(line, budget, store, trail, *most, next, choice, &here, true),
         Choice::Back => Ok(back(trail, most, next, choice, &here)),
     }
@@ -210,7 +212,15 @@ fn take_turns<'r>(
     let mut next = u128::MAX;
     let mut choice = Choice::Stay;
     'turns: for turned in 0..line.count() * TURNS_A_TOKEN {
-        match turn(line, budget, store, trail, &mut most, &mut next, &mut choice)? {
+        match turn(
+            line,
+            budget,
+            store,
+            trail,
+            &mut most,
+            &mut next,
+            &mut choice,
+        )? {
             Descent::Goes => {}
             Descent::Stops => return Ok(None),
             Descent::Ends => {
@@ -252,5 +262,7 @@ pub(crate) fn descend<'r>(
         brk: true,
     })?;
     let least = line.least_ahead(state.index, state.column);
-    take_turns(scratch, line, budget, paid, least, &mut store, &mut trail, run)
+    take_turns(
+        scratch, line, budget, paid, least, &mut store, &mut trail, run,
+    )
 }

@@ -1,7 +1,7 @@
 use Rattle.std.proofs.Common.{ℕ, ◌+◌, ◌∙◌, refl, ap, arith}
 use Rattle.line_state.specs.StoredStates.{layout_in}
 use Rattle.break_search.proofs.Reaching.{is_known}
-use Rattle.break_search.proofs.Descending.{try_known, try_within, try_cheap, try_some, try_more, try_nowhere, try_small, try_dear, try_ends, try_goes}
+use Rattle.break_search.proofs.Descending.{try_known, try_within, try_cheap, try_some, try_more, try_nowhere, try_dear, try_ends, try_goes}
 use Rattle.break_search.proofs.descent.go.Goals as goal
 
 pub successor-requires-clause-known : goal.successor-requires-clause-known
