@@ -21,7 +21,7 @@ use frame_store::FrameStore;
 use line_state::{NoMemory, cells_in};
 use searched_line::SearchedLine;
 
-/// How many tokens a line has at most that is tried so. What longer ones need can be told less well.
+/// How many tokens a line has at most that is tried so. Nearly all longer ones take more turns than they are given.
 const MOST_TOKENS: usize = 64;
 
 /// How many turns are taken at most, for each token. Most lines take two or three.
@@ -205,7 +205,8 @@ fn take_turns<'r>(
     requires budget { budget < 2 ^ 62 }
     requires paid { paid ≡ first_cost line.now }
     requires small { paid ≤ 18446744073709551615 }
-    requires begins { IsDescent line.now store.old budget trail.old least 340282366920938463463374607431768211455 Choice.Stay }
+    requires begins { IsDescent line.now store.old budget trail.old least 340282366920938463463374607431768211455
+        Choice.Stay }
     ensures { IfOk result (λ found. IfSome found (IsOutcome line.now budget)) }
 {
     let mut most = u128::from(least);
