@@ -13,7 +13,7 @@ use Rattle.line_state.specs.StoredStates.{layout_in, state_in}
 use Rattle.line_state.specs.Layout.{Layout, cells_of}
 use Rattle.line_state.specs.Line.{Line, gaps, first_layout, first_cost, Step as StepOf}
 use Rattle.searched_line.specs.Ahead.{least_ahead}
-use Rattle.searched_line.specs.Successors.{IsNextState, IsSuccessor, states_in}
+use Rattle.searched_line.specs.Successors.{IsNextState, IsSuccessor, LeadsNowhere, states_in}
 use Rattle.break_search.specs.declared.trail.Step.{Step}
 use Rattle.break_search.specs.Descent.{IsTop, IsOn, choices, choices_of, IsPast, AreLeft, IsTrying, IsDescent, IsEnd, after}
 use Rattle.break_search.specs.declared.outcome.Outcome.{Outcome}
@@ -79,6 +79,12 @@ module _ (line : Line) (some : 0 < length line.tokens) (short : length line.toke
 
   pub try_more : here.state.index < length line.tokens
   try_more = omega (arith, index, at.room)
+
+  -- where no step follows, whatever lists a store has
+  pub try_refused : ((ls : List FrameList) → LeadsNowhere line (layout_in ls here.state) brk) → IsDescent line lists budget steps most next (after brk)
+  try_refused nowhere =
+      subst (λ (ss : List Step). IsDescent line lists budget ss most next (after brk)) (sym top.1)
+      (left_out line some lists budget here top.0 at.trail next next (omega arith) brk most at.room at.floor at.above at.left (λ u k go. absurd (nowhere lists u k go)))
 
   module _ (more : List FrameList) (grown : IsGrown lists more) (successor : Option NodeState) (gives : IsSuccessor line (state_in lists here.state) brk (states_in more successor)) where
     on : IsOn line more budget here top.0

@@ -142,7 +142,13 @@ fn turn(
         Choice::Stay => go(
             line, budget, store, trail, *most, next, choice, &here, false,
         ),
-        Choice::Break => go(line, budget, store, trail, *most, next, choice, &here, true),
+        Choice::Break => {
+            if line.has_to_stay(&here.state) {
+                *choice = Choice::Back;
+                return Ok(Descent::Goes);
+            }
+            go(line, budget, store, trail, *most, next, choice, &here, true)
+        }
         Choice::Back => Ok(back(trail, most, next, choice, &here)),
     }
 }
