@@ -2,4 +2,4 @@ pub mod Failed
 pub mod Heads
 pub mod PlainTokens
 pub mod Waits
-mod StillWords
+mod BetweenDeclarations

@@ -1,18 +1,18 @@
 -- What the code keeps on the way along the items of a part.
-use Rattle.std.specs.Prelude.{◌≡◌, ⊤, ℕ, ◌+◌, ◌==◌, nat_le, Bool, true, false, ◌||◌, ◌&&◌, not, None, if◌then◌else◌}
+use Rattle.std.specs.Prelude.{◌≡◌, ⊤, ℕ, ◌+◌, ◌==◌, nat_le, Bool, true, false, ◌||◌, ◌&&◌, not, None, Option, if◌then◌else◌}
 use Rattle.token_classes.specs.declared.class.TokenClass.{TokenClass}
-use Rattle.token_classes.specs.declared.class.TokenClass.TheVariants.{OpenRound, OpenSquare, OpenBrace, Volatile}
-use Rattle.token_classes.specs.declared.class.TokenClass.TheVariants.{Inline, CapitalWord, PlainWord, TypeWord}
-use Rattle.token_classes.specs.Classes.{is_open_round, is_plain}
+use Rattle.token_classes.specs.declared.class.TokenClass.TheVariants.{OpenRound, OpenSquare, OpenBrace}
+use Rattle.token_arena.specs.Gaps.{Contents, item_began}
+use Rattle.token_classes.specs.Classes.{is_comment, is_open_round}
 use Rattle.part_walk.specs.declared.walk.Around.{Around}
 use Rattle.part_walk.specs.declared.walk.Around.TheVariants as around
-use Rattle.part_walk.specs.declared.walk.Before.TheVariants.{Name, Other}
+use Rattle.part_walk.specs.declared.walk.Begun.TheVariants.{With}
 use Rattle.part_walk.specs.declared.walk.Outcome.{Outcome}
 use Rattle.part_walk.specs.declared.walk.Outcome.TheVariants as outcome
 use Rattle.part_walk.specs.declared.walk.Walk.{Walk}
 use Rattle.part_walk.specs.Reading.{Reading, EndsOutside, EndsInBody, Never, GoesOn}
 use Rattle.part_walk.specs.declared.bodies.Head.{Head}
-use Rattle.part_walk.specs.Walk.{end_in_body, headed_by, is_between, is_some, left}
+use Rattle.part_walk.specs.Walk.{begins_outside, end_in_body, headed_by, is_between_comments, is_some, left}
 
 -- a token of a body may tell where the part ends, or changes what is known in another way than by its class
 abbrev pub tells_end : Walk → ℕ → Bool
@@ -83,27 +83,22 @@ abbrev pub StaysWhereItEnds : Outcome → Walk → Walk → Type 0
 StaysWhereItEnds (outcome.EndsInBody count) old new = new ≡ old
 StaysWhereItEnds _ old new = ⊤
 
--- a word that changes nothing in a declaration but what stands before the next token
-abbrev pub is_still : TokenClass → Bool
-is_still Volatile = true
-is_still Inline = true
-is_still CapitalWord = true
-is_still PlainWord = true
-is_still TypeWord = true
-is_still _ = false
+-- a comment stands behind the end of a declaration and comments, or behind these alone
+abbrev pub follows_between : Walk → TokenClass → Bool
+follows_between walk class = is_comment class && is_between_comments walk.declaration.before
 
--- a declaration outside brackets goes on with a word that tells nothing more
-abbrev pub goes_on_still : Walk → TokenClass → Bool
-goes_on_still walk class =
-    not (walk.place == 0) && not (is_some walk.asked) && not (is_between walk.declaration.before) && is_still class
-
--- behind such a word
-abbrev pub word_passed : Walk → ℕ → TokenClass → Walk
-word_passed walk id class =
+-- behind such a comment, where the part is asked to end so
+abbrev pub comment_passed : Walk → ℕ → TokenClass → Option ℕ → Walk
+comment_passed walk id class asked =
     record walk {
       place = walk.place + 1;
-      declaration = record walk.declaration { before = if is_plain class then Name else Other };
-      asked = None;
+      declaration = record walk.declaration { commented = false };
+      asked = asked;
+      begun = if begins_outside walk id then With (record { id = id; place = walk.place }) else walk.begun;
       behind = id + 1;
-      last = record walk.last { class = class; id = id };
+      last = record walk.last { class = class; id = id; structure = false };
     }
+
+-- behind how many items a part is asked to end there, which was asked before or not
+abbrev pub still_asked : Contents → Walk → ℕ → Option ℕ
+still_asked arena walk id = if item_began arena id then walk.asked else None

@@ -5,12 +5,12 @@
 //! here knows a view: who stands above finds the items, and says where a part of a view ends.
 #![tactic(auto)]
 
+mod between;
 mod bodies;
 mod brackets;
 mod classes;
 mod reading;
 mod walk;
-mod words;
 
 pub use bodies::{BodyKind, BodyPlace, Head, opened_head, place_behind};
 pub use brackets::OpenBrackets;

@@ -5,9 +5,9 @@ ghost use Rattle.part_walk.specs.declared.walk.Around.TheVariants.{Outside, Body
 ghost use Rattle.part_walk.specs.Steps.{opens_group, read_so, StaysWhereItEnds};
 ghost use Rattle.part_walk.specs.Walk.{reading};
 
+use crate::between::{follows_between, pass_between};
 use crate::classes::is_lost;
 use crate::walk::{Around, Outcome, Walk, asked_at};
-use crate::words::{goes_on_still, pass_word};
 use line_tokens::TokenId;
 use token_arena::TokenArena;
 use token_classes::TokenClass;
@@ -26,9 +26,9 @@ fn read_outside(
     ensures read { read_so result walk.new ≡ reading arena.now walk.old Outside id.0 class }
     ensures stays { StaysWhereItEnds result walk.old walk.new }
 {
-    // Most tokens are words of a declaration that goes on.
-    if goes_on_still(walk, class) {
-        pass_word(walk, id, class);
+    // Most items outside brackets are comments, and most of these stand behind others.
+    if follows_between(walk, class) {
+        pass_between(arena, walk, id, class);
         return Outcome::GoesOn;
     }
     let asked = asked_at(arena, walk, id, class);

@@ -158,7 +158,7 @@ impl Before {
     }
 
     /// Whether no declaration goes on there.
-    pub(crate) fn is_between(self) -> bool
+    fn is_between(self) -> bool
         ensures { result ≡ is_between self }
     {
         matches!(self, Before::Semicolon | Before::Body | Before::Between)
@@ -166,7 +166,7 @@ impl Before {
 }
 
 /// Whether an item began its line in the input.
-fn item_began(arena: &TokenArena<'_, '_>, id: TokenId) -> bool
+pub(crate) fn item_began(arena: &TokenArena<'_, '_>, id: TokenId) -> bool
     requires { id.0 < length arena.now.tokens }
     ensures { result ≡ item_began arena.now id.0 }
 {
@@ -668,7 +668,7 @@ impl Walk {
 
     /// Whether the part, or a declaration behind a directive, begins with the next item, which stands outside brackets.
     #[inline(always)]
-    fn begins_outside(&self, id: TokenId) -> bool
+    pub(crate) fn begins_outside(&self, id: TokenId) -> bool
         ensures { result ≡ begins_outside self.now id.0 }
     {
         self.place == 0 || (id.0 != self.behind && self.declaration.before.is_between())

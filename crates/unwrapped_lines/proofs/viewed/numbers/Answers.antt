@@ -1,4 +1,4 @@
-use Rattle.std.proofs.Common.{◌≡◌, ◌∙◌, ◌<◌, ◌+◌, ◌-◌, ◌++◌, ◌∷◌, ℕ, [], Option, ap, arith, drop, length, refl, take}
+use Rattle.std.proofs.Common.{◌∙◌, ◌<◌, ◌+◌, ◌-◌, ◌++◌, ◌∷◌, ℕ, [], Option, ap, arith, drop, length, refl, take}
 use Rattle.unwrapped_lines.proofs.Rows.{in_row, row_pushed, row_within}
 use Rattle.unwrapped_lines.proofs.viewed.numbers.Goals as goal
 
