@@ -118,7 +118,7 @@ opens_so OpenSquare is = record { bracket = refl; flat = refl; grows = λ place 
 opens_so _ is = cc
 
 -- the kinds that wait behind a closing bracket, and behind a quiet token
-closer_kinds : (kind class : TokenClass) (kinds : List TokenClass) → closes_group kind class ≡ true → kinds_behind (kind ∷ kinds) class ≡ kinds
+pub closer_kinds : (kind class : TokenClass) (kinds : List TokenClass) → closes_group kind class ≡ true → kinds_behind (kind ∷ kinds) class ≡ kinds
 closer_kinds OpenRound closer kinds is = by_round closer is
   where
     by_round : (closer : TokenClass) → is_close_round closer ≡ true → kinds_behind (OpenRound ∷ kinds) closer ≡ kinds

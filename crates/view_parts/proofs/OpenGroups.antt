@@ -1,11 +1,11 @@
 -- What the first tokens of a group leave open.
-use Rattle.std.proofs.Common.{◌≡◌, ◌∙◌, ℕ, zero, suc, ◌+◌, ◌<◌, Bool, true, false, ◌||◌, List, [], ◌∷◌, ◌++◌, length, get_or, take, refl, sym, ap, subst, arith}
+use Rattle.std.proofs.Common.{append-nil, ◌≡◌, ◌∙◌, ℕ, zero, suc, ◌+◌, ◌<◌, Bool, true, false, ◌||◌, List, [], ◌∷◌, ◌++◌, length, get_or, take, refl, sym, ap, subst, arith}
 use Rattle.std.proofs.lemmas.List.{append_assoc, take_more}
 use Rattle.token_classes.specs.declared.class.TokenClass.{TokenClass}
 use Rattle.part_walk.specs.declared.walk.Around.TheVariants.{Group}
 use Rattle.part_walk.specs.Steps.{opens_group}
 use Rattle.view_parts.specs.Quiet.{ClosesGroup, closes_group, is_quiet, kinds_behind, stands_in}
-use Rattle.view_parts.proofs.GroupsPassed.{quiet_kinds}
+use Rattle.view_parts.proofs.GroupsPassed.{closer_kinds, quiet_kinds}
 
 -- behind so many tokens of a group with this opener these openers wait
 abbrev pub OpenIn : TokenClass → List TokenClass → ℕ → List TokenClass → Type 0
@@ -42,3 +42,23 @@ quiet_more opener classes count (suc n) kinds d within some quiet on =
 pub opens_more : (opener : TokenClass) (classes : List TokenClass) (count n : ℕ) (kinds : List TokenClass) (d : TokenClass) → count + n < length classes → 0 < length kinds → ((k : ℕ) → k < n → is_quiet Group false (get_or classes (count + k) d) ≡ true)
     → stands_in kinds (get_or classes (count + n) d) ≡ true → OpenIn opener classes count kinds → OpenIn opener classes (count + n + 1) (kinds_behind kinds (get_or classes (count + n) d))
 opens_more opener classes count n kinds d within some quiet stands on = one_more opener classes (count + n) kinds d within stands (quiet_more opener classes count n kinds d within some quiet on)
+
+closer_stands : (opener class : TokenClass) → closes_group opener class ≡ true → stands_in (opener ∷ []) class ≡ true
+closer_stands opener class closes = by_second (opens_group class) (closes_group opener class) (is_quiet Group false class) closes
+  where
+    by_second : (a b c : Bool) → b ≡ true → a || b || c ≡ true
+    by_second true b c is = refl
+    by_second false true c is = refl
+    by_second false false c is = cc
+
+-- behind the bracket that closes a group of quiet tokens
+pub flat_closes : (opener : TokenClass) (classes : List TokenClass) (n : ℕ) (d : TokenClass) → n < length classes → ((k : ℕ) → (e : TokenClass) → k < n → is_quiet Group false (get_or classes k e) ≡ true) → closes_group opener (get_or classes n d) ≡ true
+    → ClosesGroup (opener ∷ []) (take (n + 1) classes)
+flat_closes opener classes n d within quiet closes =
+    let class = get_or classes n d in
+    let kinds : List TokenClass = opener ∷ [] in
+    let first : OpenIn opener classes 0 kinds = λ rest closed. closed in
+    let at : 0 + n ≡ n = omega arith in
+    let all : OpenIn opener classes n kinds = subst (λ j. OpenIn opener classes j kinds) at (quiet_more opener classes 0 n kinds d (omega (arith, within)) (omega arith) (λ k below. ap (λ j. is_quiet Group false (get_or classes j d)) (omega arith) ∙ quiet k d below) first) in
+    let behind : OpenIn opener classes (n + 1) (kinds_behind kinds class) = one_more opener classes n kinds d within (closer_stands opener class closes) all in
+    subst (λ (cs : List TokenClass). ClosesGroup kinds cs) (append-nil (take (n + 1) classes)) (behind [] (closer_kinds opener class [] closes))

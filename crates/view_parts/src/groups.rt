@@ -6,7 +6,7 @@ ghost use Rattle.token_classes.specs.declared.class.TokenClass.{TokenClass};
 ghost use Rattle.part_walk.specs.declared.walk.Around.TheVariants.{Group};
 ghost use Rattle.part_walk.specs.Steps.{opens_group};
 ghost use Rattle.token_classes.specs.Classes.{is_close_round, is_open_round};
-ghost use Rattle.view_parts.specs.Quiet.{ClosesGroup, is_quiet, is_square, kinds_behind, kinds_in, stands_in};
+ghost use Rattle.view_parts.specs.Quiet.{ClosesGroup, closes_group, is_quiet, is_square, kinds_behind, kinds_in, stands_in};
 
 use crate::ends::is_quiet;
 use crate::lanes::{LANES, quiet_in_group};
@@ -79,10 +79,40 @@ fn open_behind(kinds: OpenKinds, class: TokenClass) -> Option<OpenKinds>
     None
 }
 
+/// Whether this bracket closes a `(` or `[`.
+#[inline(always)]
+fn closes_group(opener: TokenClass, class: TokenClass) -> bool
+    ensures { result ≡ closes_group opener class }
+{
+    match opener {
+        TokenClass::OpenRound => class.is_close_round(),
+        TokenClass::OpenSquare => matches!(class, TokenClass::CloseSquare),
+        _ => false,
+    }
+}
+
 /// How many of these tokens stand up to the bracket that closes the `(` or `[` before them, if it is among so many and
-/// nothing but quiet tokens and groups stands before it.
+/// few quiet tokens stand before it, and nothing else.
+#[inline(always)]
+fn flat_group_len(opener: TokenClass, classes: &[TokenClass], most: usize) -> Option<usize>
+    requires most { most ≤ length classes.now }
+    ensures within { IfSome result (λ len. len ≤ most) }
+    ensures some { IfSome result (λ len. 0 < len) }
+    ensures closes { IfSome result (λ len. ClosesGroup (opener ∷ []) (take len classes.now)) }
+{
+    let next = quiet_len(classes);
+    if next >= most {
+        return None;
+    }
+    if !closes_group(opener, classes[next]) {
+        return None;
+    }
+    Some(next + 1)
+}
+
+/// The same where groups stand before that bracket.
 #[inline(never)]
-pub(crate) fn group_len(opener: TokenClass, classes: &[TokenClass], most: usize) -> Option<usize>
+fn deep_group_len(opener: TokenClass, classes: &[TokenClass], most: usize) -> Option<usize>
     requires opens { opens_group opener ≡ true }
     requires most { most ≤ length classes.now }
     requires few { most < 2 ^ 32 }
@@ -107,4 +137,21 @@ pub(crate) fn group_len(opener: TokenClass, classes: &[TokenClass], most: usize)
         }
     }
     None
+}
+
+/// How many of these tokens stand up to the bracket that closes the `(` or `[` before them, if it is among so many and
+/// nothing but quiet tokens and groups stands before it. Most groups have no others in them.
+#[inline(always)]
+pub(crate) fn group_len(opener: TokenClass, classes: &[TokenClass], most: usize) -> Option<usize>
+    requires opens { opens_group opener ≡ true }
+    requires most { most ≤ length classes.now }
+    requires few { most < 2 ^ 32 }
+    ensures within { IfSome result (λ len. len ≤ most) }
+    ensures some { IfSome result (λ len. 0 < len) }
+    ensures closes { IfSome result (λ len. ClosesGroup (opener ∷ []) (take len classes.now)) }
+{
+    if let Some(len) = flat_group_len(opener, classes, most) {
+        return Some(len);
+    }
+    deep_group_len(opener, classes, most)
 }

@@ -7,8 +7,8 @@ use Rattle.token_classes.specs.declared.class.TokenClass.TheVariants.{If, OpenRo
 use Rattle.part_walk.specs.declared.walk.Around.TheVariants.{Group}
 use Rattle.view_parts.specs.Quiet.{ClosesGroup, is_quiet, kinds_in}
 use Rattle.view_parts.proofs.OpenGroups.{OpenIn, opens_more}
-use Rattle.view_parts.proofs.groups.group_len.Goals.{else-kinds-eq0-via-then-kinds-eq0+else-not-kinds, else-kinds-eq0-via-else-kinds-eq0}
-use Rattle.view_parts.proofs.groups.group_len.Goals as goal
+use Rattle.view_parts.proofs.groups.deep_group_len.Goals.{else-kinds-eq0-via-then-kinds-eq0+else-not-kinds, else-kinds-eq0-via-else-kinds-eq0}
+use Rattle.view_parts.proofs.groups.deep_group_len.Goals as goal
 
 -- the tokens that are passed at once, by their places in all
 of_all : (classes : List TokenClass) (count n : ℕ) → count + n < length classes → ((k : ℕ) → (d : TokenClass) → k < n → is_quiet Group false (get_or (take (length classes - count) (drop count classes)) k d) ≡ true)

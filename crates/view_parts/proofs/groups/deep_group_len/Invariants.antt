@@ -1,7 +1,7 @@
 use Rattle.std.proofs.Common.{◌≤◌, ◌<◌, ◌-◌, ◌+◌, List, ◌∷◌, [], ◌++◌, length, take}
 use Rattle.token_classes.specs.declared.class.TokenClass.{TokenClass}
 use Rattle.view_parts.specs.Quiet.{ClosesGroup, kinds_in}
-use Rattle.view_parts.proofs.groups.group_len.Given as goal
+use Rattle.view_parts.proofs.groups.deep_group_len.Given as goal
 
 abbrev pub invariant-loop-count : goal.invariant-loop-count
 invariant-loop-count l = record {
