@@ -110,7 +110,7 @@ fn flat_group_len(opener: TokenClass, classes: &[TokenClass], most: usize) -> Op
     Some(next + 1)
 }
 
-/// The same where groups stand before that bracket.
+/// The same where more tokens stand before that bracket, or groups.
 #[inline(never)]
 fn deep_group_len(opener: TokenClass, classes: &[TokenClass], most: usize) -> Option<usize>
     requires opens { opens_group opener ≡ true }
