@@ -7,6 +7,7 @@ ghost use Rattle.c_chars.specs.Characters.{mark_len};
 ghost use Rattle.token_arena.specs.declared.directives.Section.{Section};
 ghost use Rattle.fmt_ports.specs.Causes.{AppendsPart, Counts};
 ghost use Rattle.token_arena.specs.Entries.{told_by};
+ghost use Rattle.token_arena.specs.Stored.{Stored};
 ghost use Rattle.token_arena.specs.Gaps.{gap_start, Stands, StandFrom};
 ghost use Rattle.replacements.specs.Guards.{guard_before, guarded_text};
 ghost use Rattle.replacements.specs.Stances.{stance_in, hash_comes, IsAt, IsKnown};
@@ -382,8 +383,8 @@ fn write_blanks_before<K: Sink>(
     )
 }
 
-/// Writes what stands before an item where that is neither lines nor blanks, as before few. The token is given by
-/// value, so that it needn't lie in memory before the others.
+/// Writes what stands before an item where that is neither lines nor blanks, as before few. It reads the item itself, so
+/// that none lies in memory for it.
 #[inline(never)]
 fn write_other_before<K: Sink>(
     style: &Style,
@@ -393,36 +394,35 @@ fn write_other_before<K: Sink>(
     plan: &Plan<'_>,
     walk: &mut Walk,
     place: u32,
-    token: Token<'_>,
     sink: &mut K,
 ) -> Result<(), Failed>
     requires tab { 1 ≤ style.now.tab_width }
     requires whole { length plan.now ≡ length arena.now.tokens + 1 }
     requires inside { place < length arena.now.tokens }
-    requires here { IsAt arena.now.tokens place (told_by token) }
     requires within { walk.old.section ≤ length sections.now }
     requires later { (k : ℕ) → place ≤ k → stance_in (drop walk.old.section sections.now) k ≡ stance_in sections.now k }
     requires known { IsKnown arena.now.dialect arena.now.tokens place walk.old.run.end walk.old.run.hash }
-    requires stands { Stands arena.now.text walk.old.at (told_by token) }
+    requires stands { (token : Stored) → IsAt arena.now.tokens place token → Stands arena.now.text walk.old.at token }
     requires held { walk.old.held ≤ walk.old.at }
     ensures within { walk.new.section ≤ length sections.now }
     ensures later { (k : ℕ) → place ≤ k → stance_in (drop walk.new.section sections.now) k ≡ stance_in sections.now k }
     ensures known { IsKnown arena.now.dialect arena.now.tokens place walk.new.run.end walk.new.run.hash }
     ensures kept { walk.new.at ≡ walk.old.at }
-    ensures held { walk.new.held ≤ token.entry.item.start }
-    ensures ok { OnOk result ((piece : List ℕ) × Appends (K.taken sink.old) (K.taken sink.new) piece
+    ensures held { (token : Stored) → IsAt arena.now.tokens place token → walk.new.held ≤ token.start }
+    ensures ok { (token : Stored) → IsAt arena.now.tokens place token →
+        OnOk result ((piece : List ℕ) × Appends (K.taken sink.old) (K.taken sink.new) piece
         × (bytes_between arena.now.text walk.old.held walk.old.at
         ++ planned_gap style.now crlf arena.now (guard_before arena.now.tokens place) walk.old.at place
-        (stance_in sections.now place) (decision_at plan.now place) (told_by token.entry)
-        (drop (place + 1) arena.now.tokens)
-        ≡ piece ++ bytes_between arena.now.text walk.new.held token.entry.item.start)) }
-    ensures part { AppendsPart (K.taken sink.old) (K.taken sink.new)
+        (stance_in sections.now place) (decision_at plan.now place) token (drop (place + 1) arena.now.tokens)
+        ≡ piece ++ bytes_between arena.now.text walk.new.held token.start)) }
+    ensures part { (token : Stored) → IsAt arena.now.tokens place token →
+        AppendsPart (K.taken sink.old) (K.taken sink.new)
         (bytes_between arena.now.text walk.old.held walk.old.at
         ++ planned_gap style.now crlf arena.now (guard_before arena.now.tokens place) walk.old.at place
-        (stance_in sections.now place) (decision_at plan.now place) (told_by token.entry)
-        (drop (place + 1) arena.now.tokens)) }
+        (stance_in sections.now place) (decision_at plan.now place) token (drop (place + 1) arena.now.tokens)) }
     ensures counts { Counts (K.faults sink.old) (K.faults sink.new) result }
 {
+    let token = arena.get(TokenId(place));
     let decision = decision_at(plan, place);
     if stays(decision) {
         return Ok(());
@@ -481,9 +481,7 @@ fn write_before<K: Sink>(
             style, crlf, arena, sections, walk, place, token, count, sink,
         );
     }
-    write_other_before(
-        style, crlf, arena, sections, plan, walk, place, *token, sink,
-    )
+    write_other_before(style, crlf, arena, sections, plan, walk, place, sink)
 }
 
 /// Writes what stands before an item that the input doesn't have there, and holds the item.
