@@ -1,5 +1,5 @@
 -- A plan by its entries.
-use Rattle.std.proofs.Common.{◌≡◌, ◌∙◌, ◌<◌, ◌≤◌, ◌+◌, ◌-◌, ◌/◌, ◌%◌, ◌^◌, ℕ, zero, suc, true, false, Some, None, Option, List, [], ◌∷◌, ◌++◌, length, get_or, take, drop, replicate, set, refl, ap, sym, subst, arith}
+use Rattle.std.proofs.Common.{append-nil, ◌≡◌, ◌∙◌, ◌<◌, ◌≤◌, ◌+◌, ◌-◌, ◌/◌, ◌%◌, ◌^◌, ℕ, zero, suc, true, false, Some, None, Option, List, [], ◌∷◌, ◌++◌, length, get_or, take, drop, replicate, set, refl, ap, sym, subst, arith}
 use Rattle.std.specs.Prelude.{All, slice_get, is_some, IsSome, if◌then◌else◌}
 use Rattle.std.proofs.lemmas.List.{get_or-drop, get_or-map, get_or-take, get_or_append_left, length-append, length-drop, length-map, length-replicate, length-set, length-take-le, map-set}
 use Rattle.std.proofs.lemmas.List.Elements.{All-cons, All-get_or, All-head, All-set, All-tail}
@@ -73,12 +73,33 @@ slots_more apart more (entry ∷ later) held =
     ∙ ap (λ (slots : List (Option Slot)). slot_in apart entry ∷ slots) (slots_more apart more later (All-tail (IsHeld apart) entry later held))
 
 -- the decision that stands apart last
-pub last_apart : (apart : List Slot) (slot : Slot) → slot_in (apart ++ slot ∷ []) (Apart (length apart / 65536) (length apart % 65536)) ≡ Some slot
+last_apart : (apart : List Slot) (slot : Slot) → slot_in (apart ++ slot ∷ []) (Apart (length apart / 65536) (length apart % 65536)) ≡ Some slot
 last_apart apart slot =
     let long : length (apart ++ slot ∷ []) ≡ length apart + length (slot ∷ []) = length-append apart (slot ∷ []) in
     let place : place_apart (length apart / 65536) (length apart % 65536) ≡ length apart = div-add-mod' (length apart) 65536 in
     ap (λ (n : ℕ). slice_get (apart ++ slot ∷ []) n) place
     ∙ (slice_get-get_or (apart ++ slot ∷ []) (length apart) no_slot (omega (arith, long)) ∙ ap (λ (last : Slot). Some last) (get_or-append_seam apart slot [] no_slot))
+
+-- so its entry says
+pub apart_grown : (before after : List Slot) (slot : Slot) → after ≡ before ++ slot ∷ [] → IsGrown before after
+apart_grown before after slot is = record { more = slot ∷ []; grown = is; few = omega arith }
+
+pub apart_held : (before after : List Slot) (slot : Slot) (entry : Entry) → after ≡ before ++ slot ∷ [] → entry ≡ Apart (length before / 65536) (length before % 65536) → IsHeld after entry
+apart_held before after slot entry is entry_is =
+    let place : place_apart (length before / 65536) (length before % 65536) ≡ length before = div-add-mod' (length before) 65536 in
+    let long : length (before ++ slot ∷ []) ≡ length before + length (slot ∷ []) = length-append before (slot ∷ []) in
+    let within : length before < length (before ++ slot ∷ []) = omega (arith, long) in
+    let here : IsHeld (before ++ slot ∷ []) (Apart (length before / 65536) (length before % 65536)) = subst (λ (n : ℕ). n < length (before ++ slot ∷ [])) (sym place) within in
+    subst (λ (e : Entry). IsHeld after e) (sym entry_is) (subst (λ (slots : List Slot). IsHeld slots (Apart (length before / 65536) (length before % 65536))) (sym is) here)
+
+pub apart_slot : (before after : List Slot) (slot : Slot) (entry : Entry) → after ≡ before ++ slot ∷ [] → entry ≡ Apart (length before / 65536) (length before % 65536) → slot_in after entry ≡ Some slot
+apart_slot before after slot entry is entry_is =
+    ap (λ (slots : List Slot). slot_in slots entry) is
+    ∙ (ap (λ (e : Entry). slot_in (before ++ slot ∷ []) e) entry_is ∙ last_apart before slot)
+
+-- no decision more stands apart
+pub none_grown : (apart : List Slot) → IsGrown apart apart
+none_grown apart = record { more = []; grown = sym (append-nil apart); few = omega arith }
 
 -- ## An entry for an open gap
 

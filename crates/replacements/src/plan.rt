@@ -1,7 +1,7 @@
 //! The decisions for the gaps of a text.
 
 ghost use Rattle.std.specs.Prelude.{◌≡◌, ◌<◌, ◌≤◌, ◌+◌, ◌/◌, ◌%◌, ◌^◌, ◌++◌, ◌∷◌, ◌↔◌, [], Some, None, false, length, replicate};
-ghost use Rattle.std.specs.Prelude.{vec_capacity, IfOk, IfSome, IsSome, IsTrue};
+ghost use Rattle.std.specs.Prelude.{is_some, vec_capacity, IfOk, IfSome, IsSome, IsTrue};
 ghost use Rattle.replacements.specs.declared.gap_text.Decision.TheVariants.{Lines, Spaces};
 ghost use Rattle.replacements.specs.Written.{decision_at};
 ghost use Rattle.std.specs.Bool.{OnFalse, OnTrue};
@@ -9,7 +9,7 @@ ghost use Rattle.c_chars.specs.declared.TheConstants.{LIMIT};
 ghost use Rattle.replacements.specs.declared.slot.Decided.TheVariants as Decided;
 ghost use Rattle.replacements.specs.Decisions.{AreDecided, IsSomeOpen, decided, slot_of};
 ghost use Rattle.replacements.specs.Breaks.{fixed_by, has_line_end, has_new_line_at};
-ghost use Rattle.replacements.specs.Inside.{AreTaken, IsGrown, IsHeld, IsSomeFree, is_open, slot_in};
+ghost use Rattle.replacements.specs.Inside.{AreTaken, IsSomeFree};
 ghost use Rattle.replacements.specs.declared.entry.Entry.TheVariants.{Apart};
 
 use crate::Decision;
@@ -82,8 +82,7 @@ fn all_decided(entries: &[Entry]) -> bool
     true
 }
 
-/// The entry of a decision that stands apart from now on. Few do.
-#[inline(never)]
+/// The entry of a decision that stands apart from now on.
 fn set_apart(apart: &mut Vec<Slot, &Bump>, slot: Slot) -> Entry
     requires few { length apart.old.items < 2 ^ 24 }
     requires room { length apart.old.items < vec_capacity apart.old }
@@ -94,30 +93,6 @@ fn set_apart(apart: &mut Vec<Slot, &Bump>, slot: Slot) -> Entry
     let place = apart.len();
     apart.push_reserved(slot);
     Entry::apart(place)
-}
-
-/// The entry of a decision, which stands apart if the entry has no room for it.
-#[inline(always)]
-fn entry_of(slot: Slot, apart: &mut Vec<Slot, &Bump>) -> Entry
-    requires few { length apart.old.items < 2 ^ 24 }
-    requires room { length apart.old.items < vec_capacity apart.old }
-    ensures room { vec_capacity apart.new ≡ vec_capacity apart.old }
-    ensures grown { IsGrown apart.old.items apart.new.items }
-    ensures held { IsHeld apart.new.items result }
-    ensures slot { slot_in apart.new.items result ≡ Some slot }
-    ensures decided { is_open result ≡ false }
-{
-    match Entry::of(slot) {
-        Some(entry) => entry,
-        // A slot of its own, so that one whose entry has room never lies in memory.
-        None => set_apart(
-            apart,
-            Slot {
-                decision: slot.decision,
-                end: slot.end,
-            },
-        ),
-    }
 }
 
 /// What is decided for the gaps of a text, and so far nothing for some. A contract sees the list of what is
@@ -156,6 +131,18 @@ impl<'a> Plan<'a> {
         })
     }
 
+    /// Decides a gap that is open, by a decision for which an entry has no room. Few have none.
+    #[inline(never)]
+    fn decide_apart(&mut self, place: u32, slot: Slot)
+        requires within { place < length self.old }
+        requires open_gap { is_some (slot_of self.old place) ≡ false }
+        ensures plan { self.new ≡ decided self.old place slot }
+        ensures len { length self.new ≡ length self.old }
+    {
+        let entry = set_apart(&mut self.apart, slot);
+        self.entries[place as usize] = entry;
+    }
+
     /// Decides a gap where it is open; `end` is the column at which the item behind it starts.
     #[inline(always)]
     pub fn decide(&mut self, place: u32, decision: Decision, end: u32) -> Decided
@@ -167,8 +154,12 @@ impl<'a> Plan<'a> {
         if self.is_decided(place) {
             return Decided::Kept;
         }
-        let entry = entry_of(Slot { decision, end }, &mut self.apart);
-        self.entries[place as usize] = entry;
+        if let Some(entry) = Entry::of(Slot { decision, end }) {
+            self.entries[place as usize] = entry;
+            return Decided::New;
+        }
+        // A slot of its own, so that one whose entry has room never lies in memory.
+        self.decide_apart(place, Slot { decision, end });
         Decided::New
     }
 
