@@ -1,7 +1,7 @@
 //! The decisions for the gaps of a text.
 
-ghost use Rattle.std.specs.Prelude.{◌≡◌, ◌<◌, ◌≤◌, ◌+◌, ◌/◌, ◌%◌, ◌^◌, ◌++◌, ◌∷◌, ◌↔◌, [], Some, None, false, length, replicate};
-ghost use Rattle.std.specs.Prelude.{is_some, vec_capacity, IfOk, IfSome, IsSome, IsTrue};
+ghost use Rattle.std.specs.Prelude.{◌≡◌, ◌<◌, ◌≤◌, ◌+◌, ◌/◌, ◌%◌, ◌^◌, ◌++◌, ◌∷◌, ◌↔◌, [], Some, None, false};
+ghost use Rattle.std.specs.Prelude.{is_some, length, replicate, vec_capacity, IfOk, IfSome, IsSome, IsTrue};
 ghost use Rattle.replacements.specs.declared.gap_text.Decision.TheVariants.{Lines, Spaces};
 ghost use Rattle.replacements.specs.Written.{decision_at};
 ghost use Rattle.std.specs.Bool.{OnFalse, OnTrue};

@@ -383,8 +383,8 @@ fn write_blanks_before<K: Sink>(
     )
 }
 
-/// Writes what stands before an item where that is neither lines nor blanks, as before few. It reads the item itself, so
-/// that none lies in memory for it.
+/// Writes what stands before an item where that is neither lines nor blanks, as before few. It reads the item itself,
+/// so that none lies in memory for it.
 #[inline(never)]
 fn write_other_before<K: Sink>(
     style: &Style,

@@ -53,8 +53,8 @@ impl Room {
         &self.bytes[self.sent..self.end]
     }
 
-    /// Makes more ready, where memory is reserved for more. What isn't ready isn't touched, so that a short text touches
-    /// little memory.
+    /// Makes more ready, where memory is reserved for more. What isn't ready isn't touched, so that a short text
+    /// touches little memory.
     pub(crate) fn widen(&mut self)
         ensures { self.new ≡ self.old }
     {
