@@ -67,3 +67,22 @@ plain_rows text entries place d token below within plain is =
       first_is = sym (first-printable raw printable ∙ len) ∙ rows.first_is;
       last_is = sym (last-printable raw printable ∙ len) ∙ rows.last_is;
     }
+
+-- An item is one row, as wide as it is long.
+pub record IsOneRow (token : Stored) : Type 0 where
+  pub count_is : token.rows ≡ 1
+  pub first_is : token.first_width ≡ length token.raw
+  pub last_is : token.last_width ≡ length token.raw
+
+-- one of printable ASCII is
+pub one_row : (text : List ℕ) (entries : List Entry) (place : ℕ) (d : Entry) (token : Stored) → place < length entries → AllWithin text entries → ArePlain text entries
+    → is_printable (get_or entries place d).spelled ≡ true → IsOneRow (get_or (kept_by_all text entries) place token)
+one_row text entries place d token below within plain is =
+    let entry : Entry = get_or entries place d in
+    let rows = plain_rows text entries place d token below within plain is in
+    let there : get_or (kept_by_all text entries) place token ≡ kept_by text (place == 0) entry = kept_there text entries place d token below in
+    let room : entry.start + entry.len ≤ length text = All-get_or (λ (e : Entry). e.start + e.len ≤ length text) entries place d below within in
+    let rest : length (drop entry.start text) ≡ length text - entry.start = length-drop entry.start text in
+    let len : length (get_or (kept_by_all text entries) place token).raw ≡ entry.len =
+    ap (λ (t : Stored). length t.raw) there ∙ length-take-le entry.len (drop entry.start text) (omega (arith, rest, room)) in
+    record { count_is = sym rows.count_is; first_is = sym rows.first_is ∙ sym len; last_is = sym rows.last_is ∙ sym len }

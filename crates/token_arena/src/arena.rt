@@ -216,7 +216,7 @@ impl<'a, 's> TokenArena<'a, 's> {
         requires { id.0 < length self.now.tokens }
         ensures { slice_get self.now.tokens id.0 ≡ Some (told_by result) }
     {
-        let entry = self.entries[id.0 as usize];
+        let entry = &self.entries[id.0 as usize];
         let raw = bytes_of(self.text, entry.start, entry.len);
         Token {
             item: Item {
@@ -224,7 +224,7 @@ impl<'a, 's> TokenArena<'a, 's> {
                 raw,
                 start: entry.start,
             },
-            gap: gap_kept(&entry, id.0 == 0),
+            gap: gap_kept(entry, id.0 == 0),
             back: is_back(entry.spelled),
             before: bytes_of(self.text, 0, entry.start),
         }
@@ -239,7 +239,7 @@ impl<'a, 's> TokenArena<'a, 's> {
         ensures first { (no_token : Stored) → result.first_width ≡ (get_or self.now.tokens id.0 no_token).first_width }
         ensures last { (no_token : Stored) → result.last_width ≡ (get_or self.now.tokens id.0 no_token).last_width }
     {
-        let entry = self.entries[id.0 as usize];
+        let entry = &self.entries[id.0 as usize];
         if is_printable(entry.spelled) {
             return one_row(entry.len);
         }
@@ -274,6 +274,20 @@ impl<'a, 's> TokenArena<'a, 's> {
             start -= 1;
         }
         start
+    }
+
+    /// Whether the item with this number is known to be one row of printable ASCII, which is as wide as it is long.
+    #[inline(always)]
+    #[tactic(auto, using(crate::proofs::EntryLemmas::length_kept))]
+    pub fn is_one_row(&self, id: TokenId) -> bool
+        requires { id.0 < length self.now.tokens }
+        ensures count { (no_token : Stored) → IsTrue result → (get_or self.now.tokens id.0 no_token).rows ≡ 1 }
+        ensures first { (no_token : Stored) → IsTrue result →
+            (get_or self.now.tokens id.0 no_token).first_width ≡ length (get_or self.now.tokens id.0 no_token).raw }
+        ensures last { (no_token : Stored) → IsTrue result →
+            (get_or self.now.tokens id.0 no_token).last_width ≡ length (get_or self.now.tokens id.0 no_token).raw }
+    {
+        is_printable(self.entries[id.0 as usize].spelled)
     }
 
     /// The first item behind the line that begins with this one.
