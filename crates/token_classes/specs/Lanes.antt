@@ -1,5 +1,5 @@
 -- The numbers of classes, and the tokens that are told by them.
-use Rattle.std.specs.Prelude.{ℕ, Bool, ◌||◌, not}
+use Rattle.std.specs.Prelude.{ℕ, Bool, not}
 use Rattle.token_classes.specs.declared.class.TokenClass.{TokenClass}
 use Rattle.token_classes.specs.declared.class.TokenClass.TheVariants.{If, Else, For, While, Do, Switch, Case, Default}
 use Rattle.token_classes.specs.declared.class.TokenClass.TheVariants.{Return, Goto, Jump, Struct, Union, Enum, Extern}
@@ -12,7 +12,7 @@ use Rattle.token_classes.specs.declared.class.TokenClass.TheVariants.{Step, Not,
 use Rattle.token_classes.specs.declared.class.TokenClass.TheVariants.{Equality, Ampersand, Caret, Bar, And, Or, Hash}
 use Rattle.token_classes.specs.declared.class.TokenClass.TheVariants.{Literal, Text, LineComment, BlockComment, Other}
 use Rattle.token_classes.specs.declared.class.TokenClass.TheVariants.{Nothing}
-use Rattle.token_classes.specs.Classes.{is_bracket, is_colon, is_semicolon}
+use Rattle.token_classes.specs.Classes.{is_bracket}
 
 -- which class it is, as they are listed
 abbrev pub number_of : TokenClass → ℕ
@@ -75,6 +75,6 @@ number_of BlockComment = 55
 number_of Other = 56
 number_of Nothing = 57
 
--- a token that is no bracket, `:` or `;`
+-- a token that is no bracket
 abbrev pub is_quiet : TokenClass → Bool
-is_quiet class = not (is_bracket class || (is_colon class || is_semicolon class))
+is_quiet class = not (is_bracket class)

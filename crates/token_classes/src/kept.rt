@@ -1,9 +1,11 @@
 //! Gaps that are kept as they are, inside the braces of statements that stand inside brackets.
 
-ghost use Rattle.std.specs.Prelude.{◌≡◌, ◌<◌, ◌^◌, reverse, replicate, map, length, false, None, IfOk, OnOk};
-ghost use Rattle.std.specs.List.{range_with_len};
+ghost use Rattle.std.specs.Prelude.{◌≡◌, ◌&&◌, ◌<◌, ◌^◌, reverse, replicate, map, length, false, None, IfOk, OnOk};
+ghost use Rattle.std.specs.List.{list_any, range_with_len};
 ghost use Rattle.token_classes.specs.Partners.{partners_of, count_braces, StandBefore};
+ghost use Rattle.token_classes.specs.Classes.{is_open_brace};
 ghost use Rattle.token_classes.specs.Kept.{is_statement_brace, is_inside, kept_gaps_of, marked, AreOpeners};
+ghost use Rattle.token_classes.specs.Kept.{is_round_or_square};
 
 use crate::TokenClass;
 use crate::lanes::quiet_len;
@@ -31,10 +33,21 @@ fn mark_topmost(stack: &[Opener], braces: usize, marks: &mut [bool]) -> bool
     false
 }
 
+/// Whether a token is a `{` that stands where a `(` or `[` waits.
+#[inline(always)]
+fn opens_inside(class: TokenClass, stack: &[Opener], braces: usize) -> bool
+    requires count { braces ≡ count_braces (reverse stack.now) }
+    requires openers { AreOpeners (reverse stack.now) }
+    ensures { result ≡ (is_open_brace class && list_any is_round_or_square (reverse stack.now)) }
+{
+    class.is_open_brace() && braces < stack.len()
+}
+
 /// How many openers there is room for at first. Few views nest deeper.
 const DEPTH: usize = 32;
 
-/// Fills in the partners of the places, marks the statement braces among them, and tells whether there is one.
+/// Fills in the partners of the places, marks the statement braces among them, and tells whether there is one. Up to the
+/// first `{` inside brackets no `;` marks one, so brackets alone are looked at.
 fn read_brackets(
     classes: &[TokenClass],
     partners: &mut [Partner],
@@ -49,22 +62,24 @@ fn read_brackets(
         (marks.new ≡ map (is_statement_brace classes.now) (range_with_len 0 (length classes.now))) }
     ensures none { IfOk result (λ any. any ≡ false → marks.new ≡ replicate (length classes.now) false) }
 {
-    let mut any = false;
     let mut stack: Vec<Opener, &Bump> = Vec::with_capacity(run, DEPTH)?;
     let mut braces: usize = 0;
-    let mut place = 0;
+    let mut place = quiet_len(classes);
+    while place < classes.len() && !opens_inside(classes[place], &stack, braces) {
+        let taken = waiting_step(&mut stack, &mut braces, place as u32, classes[place])?;
+        close(partners, taken, place as u32);
+        place += 1;
+        place += quiet_len(&classes[place..]);
+    }
+    let mut any = false;
     while place < classes.len() {
-        let next = place + quiet_len(&classes[place..]);
-        if next == classes.len() {
-            return Ok(any);
-        }
-        let class = classes[next];
+        let class = classes[place];
         if class.is_semicolon() && mark_topmost(&stack, braces, marks) {
             any = true;
         }
-        let taken = waiting_step(&mut stack, &mut braces, next as u32, class)?;
-        close(partners, taken, next as u32);
-        place = next + 1;
+        let taken = waiting_step(&mut stack, &mut braces, place as u32, class)?;
+        close(partners, taken, place as u32);
+        place += 1;
     }
     Ok(any)
 }

@@ -44,20 +44,20 @@ fn numbers(classes: &[TokenClass; LANES]) -> u8x16
     ])
 }
 
-/// How many of sixteen tokens stand before the first bracket, `:` or `;`, which are listed side by side.
+/// How many of sixteen tokens stand before the first bracket. Brackets are listed side by side.
 #[inline(always)]
 fn quiet_in_sixteen(classes: &[TokenClass; LANES]) -> usize
     ensures { result ≡ prefix_len is_quiet classes.now }
 {
     let from_bracket = numbers(classes) - u8x16::splat(TokenClass::OpenRound as u8);
-    let told = from_bracket.simd_lt(u8x16::splat(8)).to_bitmask();
+    let told = from_bracket.simd_lt(u8x16::splat(6)).to_bitmask();
     if told == 0 {
         return LANES;
     }
     told.trailing_zeros() as usize
 }
 
-/// How many tokens that are no bracket, `:` or `;` these begin with, as far as is told at once.
+/// How many tokens that are no brackets these begin with, as far as is told at once.
 #[inline(always)]
 pub(crate) fn quiet_len(classes: &[TokenClass]) -> usize
     ensures within { result ≤ length classes.now }
