@@ -1,7 +1,8 @@
 //! A view as a list of tokens and comments.
 
 ghost use Rattle.std.specs.Prelude.{◌≡◌, ◌&&◌, ◌<◌, ◌≤◌, ◌+◌, length, map, get_or, slice_get, vec_capacity, IfOk, Some};
-ghost use Rattle.std.specs.Prelude.{ℕ, false, true, if◌then◌else◌};
+ghost use Rattle.std.specs.Prelude.{ℕ, ◌∷◌, [], ◌++◌, ◌^◌, nat_lt, false, true, if◌then◌else◌};
+ghost use Rattle.item_classes.specs.Part.{part_of};
 ghost use Rattle.token_classes.specs.declared.class.TokenClass.{TokenClass};
 ghost use Rattle.item_classes.specs.Viewed.{AreWithin};
 ghost use Rattle.token_classes.specs.Classes.{is_colon, is_comment};
@@ -199,6 +200,29 @@ fn note_case(
     Ok(())
 }
 
+/// Notes the comment at a place, which is the item with this number.
+#[inline(never)]
+fn note_comment(
+    arena: &TokenArena<'_, '_>,
+    id: u32,
+    place: usize,
+    class: TokenClass,
+    comments: &mut Vec<ViewComment, &Bump>,
+) -> Result<(), NoMemory>
+    requires item { id < length arena.now.tokens }
+    requires comment { is_comment class ≡ true }
+    requires low { place < 2 ^ 32 }
+    ensures { IfOk result (λ u. comments.new.items ≡ comments.old.items
+        ++ record { place = place; part = part_of arena.now id (nat_lt (length comments.old.items) place) class } ∷ []) }
+{
+    let started = comments.len() < place;
+    comments.push(ViewComment {
+        place: place as u32,
+        part: comment_part(arena, id, started, class),
+    })?;
+    Ok(())
+}
+
 /// Appends the token at a place of a segment, or notes the comment there.
 #[inline(never)]
 fn push_other<'r>(
@@ -234,11 +258,7 @@ fn push_other<'r>(
     let segment = segments[number];
     let id = segment.first + (place as u32 - segment.before);
     if class.is_comment() {
-        let started = noted.comments.len() < place;
-        noted.comments.push(ViewComment {
-            place: place as u32,
-            part: comment_part(arena, id, started, class),
-        })?;
+        note_comment(arena, id, place, class, &mut noted.comments)?;
         return Ok(tokens);
     }
     note_case(class, tokens.len(), &mut noted.cases)?;
@@ -299,6 +319,11 @@ fn push_segment<'r>(
     for id in first.max(1)..first + near.saturating_sub(from) as u32 {
         let class = classes[place];
         if is_other(class) {
+            if class.is_comment() {
+                note_comment(arena, id, place, class, &mut noted.comments)?;
+                place += 1;
+                continue;
+            }
             tokens = push_other(
                 arena, segments, number, place, classes, numbers, partners, tokens, noted, run,
             )?;
