@@ -95,3 +95,9 @@ pub held_still : {T E : Type 0} (result : Result T E) (items more new : List ℕ
     → slice_range new sent end ≡ slice_range items sent end
 held_still (Ok v) items more new sent end first within is = ap (λ (l : List ℕ). slice_range l sent end) is ∙ held_wider items more sent end first within
 held_still (Err e) items more new sent end first within is = ap (λ (l : List ℕ). slice_range l sent end) is
+
+pub still_within : {T E : Type 0} (result : Result T E) (items more new : List ℕ) (end : ℕ) → end ≤ length items → new ≡ (if is_ok result then items ++ more else items) → end ≤ length new
+still_within (Ok v) items more new end within is =
+    let len : length new ≡ length items + length more = ap (λ (l : List ℕ). length l) is ∙ length-append items more in
+    omega (arith, within, len)
+still_within (Err e) items more new end within is = let len : length new ≡ length items = ap (λ (l : List ℕ). length l) is in omega (arith, within, len)

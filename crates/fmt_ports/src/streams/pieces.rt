@@ -70,7 +70,7 @@ impl<'k, K: Sink> Pieces<'k, K> {
         ensures grows { Grows (K.taken self.old.out.now) (K.taken self.new.out.now) }
         ensures counts { Counts (K.faults self.old.out.now) (K.faults self.new.out.now) result }
     {
-        self.room.widen();
+        self.room.widen(bytes.len());
         if self.room.try_add(bytes) {
             return Ok(bytes.len());
         }

@@ -30,6 +30,22 @@ impl Model for Room {
     ghost invariant = { λ room. (room.sent ≤ room.end) × (room.end ≤ length room.bytes.items) };
 }
 
+/// Makes so many bytes ready behind a place, page by page, as far as memory is reserved.
+fn make_ready(bytes: &mut Vec<u8>, end: usize, count: usize)
+    requires { end ≤ length bytes.old.items }
+    ensures within { end ≤ length bytes.new.items }
+    ensures same { (sent : ℕ) → sent ≤ end →
+        slice_range bytes.new.items sent end ≡ slice_range bytes.old.items sent end }
+{
+    for _page in 0..PIECE / STEP.len() {
+        if count <= bytes.len() - end {
+            return;
+        }
+        let left = bytes.capacity() - bytes.len();
+        let _ = bytes.extend_from_slice(&STEP[..left.min(STEP.len())]);
+    }
+}
+
 impl Room {
     /// Holds nothing. Where memory ran out it has no place for any byte.
     pub(crate) fn new(alloc: Global) -> Room
@@ -53,13 +69,12 @@ impl Room {
         &self.bytes[self.sent..self.end]
     }
 
-    /// Makes more ready, where memory is reserved for more. What isn't ready isn't touched, so that a short text
-    /// touches little memory.
-    pub(crate) fn widen(&mut self)
+    /// Makes so many bytes more ready behind those that it holds, as far as memory is reserved. What isn't ready isn't
+    /// touched, so that a short text touches little memory.
+    pub(crate) fn widen(&mut self, count: usize)
         ensures { self.new ≡ self.old }
     {
-        let left = self.bytes.capacity() - self.bytes.len();
-        let _ = self.bytes.extend_from_slice(&STEP[..left.min(STEP.len())]);
+        make_ready(&mut self.bytes, self.end, count);
     }
 
     /// Takes bytes, all where they find room behind those that it holds, and none otherwise.
