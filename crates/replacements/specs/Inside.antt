@@ -1,6 +1,6 @@
 -- How a plan lies in memory, which its model hides.
-use Rattle.std.specs.Prelude.{◌<◌, ◌≤◌, ◌+◌, ◌*◌, ◌++◌, ◌^◌, ◌≡◌, ℕ, suc, Bool, true, false, Option, Some, None, List, []}
-use Rattle.std.specs.Prelude.{◌∷◌, All, get_or, length, map, slice_get}
+use Rattle.std.specs.Prelude.{◌<◌, ◌≤◌, ◌+◌, ◌*◌, ◌++◌, ◌^◌, ◌≡◌, ℕ, suc, Bool, true, false, Option, Some, None}
+use Rattle.std.specs.Prelude.{List, [], ◌∷◌, All, get_or, length, map, slice_get}
 use Rattle.replacements.specs.declared.gap_text.Decision.TheVariants as decision
 use Rattle.replacements.specs.declared.slot.Slot.{Slot}
 use Rattle.replacements.specs.declared.entry.Entry.{Entry}

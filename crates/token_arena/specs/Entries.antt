@@ -139,7 +139,8 @@ comments_kept at (entry ∷ entries) =
     if keeps_comment entry then at ∷ comments_kept (at + 1) entries else comments_kept (at + 1) entries
 
 -- these entries are an arena of this text, and these numbers are those of the comments, and of what may be a `#`
-pub record AreEntries (text : List ℕ) (dialect : Dialect) (entries : List Entry) (comments hashes : List ℕ) : Type 0 where
+pub record AreEntries (text : List ℕ) (dialect : Dialect) (entries : List Entry)
+    (comments hashes : List ℕ) : Type 0 where
   pub within : AllWithin text entries
   pub plain : ArePlain text entries
   pub sound : IsSound (contents_of text dialect entries)

@@ -87,7 +87,8 @@ struct Kept<'a> {
 /// What is kept of all items of a text.
 fn entries_of<'a>(bump: &'a Bump, text: &[u8], dialect: Dialect) -> Result<Kept<'a>, ArenaFault>
     requires fits { length text.now ≤ LIMIT }
-    ensures entries { IfOk result (λ kept. AreEntries text.now dialect kept.entries.now kept.comments.now kept.hashes.now) }
+    ensures entries { IfOk result (λ kept.
+        AreEntries text.now dialect kept.entries.now kept.comments.now kept.hashes.now) }
     ensures fault { IfErr result (IsCause dialect text.now) }
 {
     // Few texts have more items than this, and memory that holds none is never touched.

@@ -46,8 +46,8 @@ fn opens_inside(class: TokenClass, stack: &[Opener], braces: usize) -> bool
 /// How many openers there is room for at first. Few views nest deeper.
 const DEPTH: usize = 32;
 
-/// Fills in the partners of the places, marks the statement braces among them, and tells whether there is one. Up to the
-/// first `{` inside brackets no `;` marks one, so brackets alone are looked at.
+/// Fills in the partners of the places, marks the statement braces among them, and tells whether there is one. Up to
+/// the first `{` inside brackets no `;` marks one, so brackets alone are looked at.
 fn read_brackets(
     classes: &[TokenClass],
     partners: &mut [Partner],

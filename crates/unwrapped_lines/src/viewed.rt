@@ -213,7 +213,8 @@ fn note_comment(
     requires comment { is_comment class ≡ true }
     requires low { place < 2 ^ 32 }
     ensures { IfOk result (λ u. comments.new.items ≡ comments.old.items
-        ++ record { place = place; part = part_of arena.now id (nat_lt (length comments.old.items) place) class } ∷ []) }
+        ++ record { place = place; part = part_of arena.now id (nat_lt (length comments.old.items) place) class }
+        ∷ []) }
 {
     let started = comments.len() < place;
     comments.push(ViewComment {

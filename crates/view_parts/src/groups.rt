@@ -6,7 +6,8 @@ ghost use Rattle.token_classes.specs.declared.class.TokenClass.{TokenClass};
 ghost use Rattle.part_walk.specs.declared.walk.Around.TheVariants.{Group};
 ghost use Rattle.part_walk.specs.Steps.{opens_group};
 ghost use Rattle.token_classes.specs.Classes.{is_close_round, is_open_round};
-ghost use Rattle.view_parts.specs.Quiet.{ClosesGroup, closes_group, is_quiet, is_square, kinds_behind, kinds_in, stands_in};
+ghost use Rattle.view_parts.specs.Quiet.{ClosesGroup, closes_group, is_quiet, is_square};
+ghost use Rattle.view_parts.specs.Quiet.{kinds_behind, kinds_in, stands_in};
 
 use crate::ends::is_quiet;
 use crate::lanes::{LANES, quiet_in_group};
