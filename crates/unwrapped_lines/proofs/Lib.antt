@@ -6,4 +6,3 @@ pub mod SegmentLemmas
 pub mod Passed
 pub mod CommentParts
 pub mod EndsWithToken
-mod Rows

@@ -1,9 +1,7 @@
 //! A view as a list of tokens and comments.
 
 ghost use Rattle.std.specs.Prelude.{◌≡◌, ◌&&◌, ◌<◌, ◌≤◌, ◌+◌, length, map, get_or, slice_get, vec_capacity, IfOk, Some};
-ghost use Rattle.std.specs.Prelude.{ℕ, ◌∷◌, [], ◌++◌, ◌^◌, nat_lt, false, true, if◌then◌else◌};
-ghost use Rattle.item_classes.specs.Part.{part_of};
-ghost use Rattle.token_classes.specs.declared.class.TokenClass.{TokenClass};
+ghost use Rattle.std.specs.Prelude.{false, if◌then◌else◌};
 ghost use Rattle.item_classes.specs.Viewed.{AreWithin};
 ghost use Rattle.token_classes.specs.Classes.{is_colon, is_comment};
 ghost use Rattle.unwrapped_lines.specs.Viewed.{colon_touches, numbers_of, partner_number, code_tokens, parts_of};
@@ -79,37 +77,6 @@ fn next_number(class: TokenClass, number: u32) -> u32
     }
 }
 
-/// So many items are looked at together.
-const LANES: usize = 16;
-
-/// Whether one of sixteen items is a comment. Each is looked at, so that all are told at once.
-#[inline(always)]
-fn has_comment(classes: &[TokenClass; LANES]) -> bool
-    ensures { result ≡ false →
-        (k : ℕ) → (d : TokenClass) → k < length classes.now → is_comment (get_or classes.now k d) ≡ false }
-{
-    let mut found = false;
-    for class in classes {
-        if class.is_comment() {
-            found = true;
-        }
-    }
-    found
-}
-
-/// Whether sixteen items stand first of these, and none of them is a comment.
-#[inline(always)]
-fn begins_with_tokens(classes: &[TokenClass]) -> bool
-    ensures long { result ≡ true → 16 ≤ length classes.now }
-    ensures tokens { result ≡ true →
-        (k : ℕ) → (d : TokenClass) → k < 16 → is_comment (get_or classes.now k d) ≡ false }
-{
-    match classes.split_first_chunk::<LANES>() {
-        Some((sixteen, _)) => !has_comment(sixteen),
-        None => false,
-    }
-}
-
 /// How many tokens that are no comments stand before each place; and behind all of these, no number.
 #[inline(never)]
 fn numbers<'r>(classes: &[TokenClass], run: &'r Bump) -> Result<Vec<Partner, &'r Bump>, NoMemory>
@@ -118,23 +85,9 @@ fn numbers<'r>(classes: &[TokenClass], run: &'r Bump) -> Result<Vec<Partner, &'r
 {
     let mut numbers = Vec::with_capacity(run, classes.len() + 1)?;
     let mut number: u32 = 0;
-    let mut place = 0;
-    while place < classes.len() {
-        // Between comments the numbers rise by one, which needs no look at each token.
-        if begins_with_tokens(&classes[place..]) {
-            for step in 0..LANES as u32 {
-                numbers.push_reserved(Partner::at(number + step));
-            }
-            number += LANES as u32;
-            place += LANES;
-            continue;
-        }
-        let stop = classes.len().min(place + LANES);
-        for at in place..stop {
-            numbers.push_reserved(Partner::at(number));
-            number = next_number(classes[at], number);
-        }
-        place = stop;
+    for class in classes {
+        numbers.push_reserved(Partner::at(number));
+        number = next_number(*class, number);
     }
     numbers.push_reserved(Partner::none());
     Ok(numbers)
@@ -200,30 +153,6 @@ fn note_case(
     Ok(())
 }
 
-/// Notes the comment at a place, which is the item with this number.
-#[inline(never)]
-fn note_comment(
-    arena: &TokenArena<'_, '_>,
-    id: u32,
-    place: usize,
-    class: TokenClass,
-    comments: &mut Vec<ViewComment, &Bump>,
-) -> Result<(), NoMemory>
-    requires item { id < length arena.now.tokens }
-    requires comment { is_comment class ≡ true }
-    requires low { place < 2 ^ 32 }
-    ensures { IfOk result (λ u. comments.new.items ≡ comments.old.items
-        ++ record { place = place; part = part_of arena.now id (nat_lt (length comments.old.items) place) class }
-        ∷ []) }
-{
-    let started = comments.len() < place;
-    comments.push(ViewComment {
-        place: place as u32,
-        part: comment_part(arena, id, started, class),
-    })?;
-    Ok(())
-}
-
 /// Appends the token at a place of a segment, or notes the comment there.
 #[inline(never)]
 fn push_other<'r>(
@@ -259,7 +188,11 @@ fn push_other<'r>(
     let segment = segments[number];
     let id = segment.first + (place as u32 - segment.before);
     if class.is_comment() {
-        note_comment(arena, id, place, class, &mut noted.comments)?;
+        let started = noted.comments.len() < place;
+        noted.comments.push(ViewComment {
+            place: place as u32,
+            part: comment_part(arena, id, started, class),
+        })?;
         return Ok(tokens);
     }
     note_case(class, tokens.len(), &mut noted.cases)?;
@@ -320,11 +253,6 @@ fn push_segment<'r>(
     for id in first.max(1)..first + near.saturating_sub(from) as u32 {
         let class = classes[place];
         if is_other(class) {
-            if class.is_comment() {
-                note_comment(arena, id, place, class, &mut noted.comments)?;
-                place += 1;
-                continue;
-            }
             tokens = push_other(
                 arena, segments, number, place, classes, numbers, partners, tokens, noted, run,
             )?;

@@ -1,22 +1,16 @@
-use Rattle.std.proofs.Common.{◌∙◌, ◌<◌, ◌+◌, ◌-◌, ◌++◌, ◌∷◌, ℕ, [], Option, ap, arith, drop, length, refl, take}
-use Rattle.unwrapped_lines.proofs.Rows.{in_row, row_pushed, row_within}
+use Rattle.std.proofs.Common.{◌∙◌, ◌++◌, ◌∷◌, ℕ, [], Option, ap, arith}
+use Rattle.token_classes.specs.declared.class.TokenClass.TheVariants.{If}
+use Rattle.unwrapped_lines.proofs.NumberLemmas.{number_pushed}
 use Rattle.unwrapped_lines.proofs.viewed.numbers.Goals as goal
 
-pub loop-step-preserved : goal.loop-step-preserved
-loop-step-preserved c =
-    let classes = c.args.classes.now in
-    let place = c.loop-place.place in
-    let step = c.loop-step.step in
-    let inv = c.loop-step.invariant in
-    let row = take (length classes - place) (drop place classes) in
-    let long = row_within classes place (c.begins_with_tokens.ensures.long c.if-begins_with_tokens.true) c.loop-place.invariant.within in
-    let within : place + step < length classes = omega (arith, long, c.loop-step-test.true) in
-    let token = in_row classes row place step refl within (c.begins_with_tokens.ensures.tokens c.if-begins_with_tokens.true) (omega (arith, c.loop-step-test.true)) in
+pub loop-class-preserved : goal.loop-class-preserved
+loop-class-preserved c =
+    let inv = c.loop-class.invariant in
     record {
       same =
-          row_pushed classes place step c.loop-place.number c.loop-step.numbers.items _ _ within inv.same
-          (c.push_reserved.ensures.items ∙ ap (λ (x : Option ℕ). c.loop-step.numbers.items ++ x ∷ []) c.at.ensures) token;
-      top = omega (arith, c.loop-step-test.true);
+          number_pushed c.args.classes.now c.loop-class.class-index c.loop-class.number _ _ _ _ If c.loop-class-test.true inv.same
+          (c.push_reserved.ensures.items ∙ ap (λ (x : Option ℕ). c.loop-class.numbers.items ++ x ∷ []) c.at.ensures) c.next_number-number.ensures.same;
+      most = omega (arith, inv.most, c.next_number-number.ensures.most);
       count = omega (arith, inv.count, c.push_reserved.ensures.len);
       room = omega (arith, inv.room, c.push_reserved.ensures.capacity);
     }

@@ -7,6 +7,7 @@ use Rattle.token_classes.specs.declared.class.TokenClass.TheVariants.{If}
 use Rattle.unwrapped_lines.specs.Viewed.{token_at}
 use Rattle.item_classes.specs.Part.{part_of}
 use Rattle.statement_lines.specs.declared.token.CodeToken.{CodeToken}
+use Rattle.item_classes.specs.declared.part.Part.{Part}
 use Rattle.unwrapped_lines.specs.declared.part.ViewComment.{ViewComment}
 use Rattle.unwrapped_lines.specs.Inside.{AreTokensBefore, AreCommentsBefore}
 use Rattle.unwrapped_lines.proofs.CommentParts.{comment_noted, token_noted}
@@ -83,8 +84,8 @@ returns-then-is_comment-clause-tokens c =
     let is : is_comment (get_or classes c.args.place If) ≡ true = sym c.is_comment.ensures ∙ c.if-is_comment.true in
     comment_before arena ids classes partners c.args.place If c.args.tokens.items c.requires.before here is
 
-pub note_comment-requires-clause-item : goal.note_comment-requires-clause-item
-note_comment-requires-clause-item c =
+pub comment_part-requires-clause-item : goal.comment_part-requires-clause-item
+comment_part-requires-clause-item c =
     let id = (get_or c.args.segments.now c.args.number no_segment).first + (c.args.place - (get_or c.args.segments.now c.args.number no_segment).before) in
     let at : IsAt (length c.args.arena.now.tokens) (ids_of (map segment_bounds c.args.segments.now)) c.args.place id =
     at_place (length c.args.arena.now.tokens) c.args.segments.now c.args.number c.args.place id c.requires.read.rule c.requires.read.within c.requires.number c.requires.from c.requires.end (omega (arith, c.requires.from)) in
@@ -116,13 +117,9 @@ returns-then-is_comment-clause-comments c =
     let class = get_or classes k If in
     let is : is_comment class ≡ true = sym c.is_comment.ensures ∙ c.if-is_comment.true in
     let P : List ViewComment → Type 0 = λ comments. AreCommentsBefore arena ids classes (k + 1) comments in
-    let noted : c.note_comment.new.comments.items ≡ old ++ record { place = k; part = part_of arena (get_or ids k 0) (nat_lt (length old) k) class } ∷ [] =
-    c.in_ok-note_comment.ensures ∙ ap (λ i. old ++ record { place = k; part = part_of arena i (nat_lt (length old) k) class } ∷ []) (sym at.item) in
+    let count : c.len.result ≡ length old = omega (arith, c.len.ensures, c.args.noted.now.comments.ok.0) in
+    let noted : c.push.new.self.items ≡ old ++ record { place = k; part = part_of arena (get_or ids k 0) (nat_lt (length old) k) class } ∷ [] =
+    c.in_ok-push.ensures.items
+    ∙ ap (λ (p : Part). old ++ record { place = k; part = p } ∷ [])
+    (c.comment_part.ensures ∙ (ap (λ n. part_of arena id (nat_lt n k) class) count ∙ ap (λ i. part_of arena i (nat_lt (length old) k) class) (sym at.item))) in
     subst P (sym noted) (comment_noted arena ids classes k If old c.requires.comments here is)
-
-pub note_comment-requires-clause-low : goal.note_comment-requires-clause-low
-note_comment-requires-clause-low c =
-    let id = (get_or c.args.segments.now c.args.number no_segment).first + (c.args.place - (get_or c.args.segments.now c.args.number no_segment).before) in
-    let at : IsAt (length c.args.arena.now.tokens) (ids_of (map segment_bounds c.args.segments.now)) c.args.place id =
-    at_place (length c.args.arena.now.tokens) c.args.segments.now c.args.number c.args.place id c.requires.read.rule c.requires.read.within c.requires.number c.requires.from c.requires.end (omega (arith, c.requires.from)) in
-    omega (arith, at.place, c.requires.read.places, c.requires.read.few)

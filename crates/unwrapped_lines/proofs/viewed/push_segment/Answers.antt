@@ -1,6 +1,4 @@
-use Rattle.std.proofs.Common.{◌≡◌, ◌∙◌, ◌<◌, ◌+◌, ◌++◌, ◌∷◌, [], ◌&&◌, List, Option, Some, Bool, ℕ, true, false, nat_lt, ap, length, map, get_or}
-use Rattle.item_classes.specs.Part.{part_of}
-use Rattle.unwrapped_lines.specs.declared.part.ViewComment.{ViewComment}
+use Rattle.std.proofs.Common.{◌≡◌, ◌∙◌, ◌<◌, ◌+◌, ◌&&◌, List, Option, Some, Bool, ℕ, false, ap, length, map, get_or}
 use Rattle.std.proofs.Common.{slice_get, arith, subst, sym, refl}
 use Rattle.std.proofs.lemmas.Option.{slice_get-get_or}
 use Rattle.token_arena.specs.Gaps.{item_began}
@@ -11,8 +9,8 @@ use Rattle.item_classes.proofs.ItemClasses.{viewed_fits}
 use Rattle.unwrapped_lines.specs.Viewed.{colon_touches, numbers_of, partner_number, token_at}
 use Rattle.statement_lines.specs.declared.token.CodeToken.{CodeToken}
 use Rattle.unwrapped_lines.specs.Inside.{AreTokensBefore, AreCommentsBefore, segment_stop}
-use Rattle.unwrapped_lines.proofs.CommentParts.{comment_noted, token_noted}
-use Rattle.unwrapped_lines.proofs.SegmentLemmas.{IsAt, at_place, comment_before, in_order, stop_most, token_before, token_same}
+use Rattle.unwrapped_lines.proofs.CommentParts.{token_noted}
+use Rattle.unwrapped_lines.proofs.SegmentLemmas.{IsAt, at_place, in_order, stop_most, token_before, token_same}
 use Rattle.unwrapped_lines.proofs.viewed.push_segment.Goals as goal
 use Rattle.unwrapped_lines.proofs.viewed.push_segment.Goals.{then-first-eq0+in_ok-tokens, else-first-eq0}
 
@@ -154,51 +152,3 @@ returns-clause-comments c =
     let stop : c.loop-far.far ≡ segment_stop (get_or segments c.args.number no_segment) = omega (arith, c.loop-far.invariant.most, c.loop-far-test.false) in
     let P : ℕ → Type 0 = λ k. AreCommentsBefore c.args.arena.now (ids_of (map segment_bounds segments)) c.args.classes.now k c.loop-far.noted.comments.items in
     subst P stop c.loop-far.invariant.comments
-
-pub note_comment-requires-clause-item : goal.note_comment-requires-clause-item
-note_comment-requires-clause-item c =
-    let at : IsAt (length c.args.arena.now.tokens) (ids_of (map segment_bounds c.args.segments.now)) c.loop-id.place c.loop-id.id =
-    at_place (length c.args.arena.now.tokens) c.args.segments.now c.args.number c.loop-id.place c.loop-id.id c.requires.read.rule c.requires.read.within c.requires.number
-    c.loop-id.invariant.least
-    (omega (arith, c.loop-id.invariant.place, c.loop-id.invariant.least, c.loop-id-test.true, c.saturating_sub.ensures, c.min-near.ensures))
-    c.loop-id.invariant.place in
-    at.within
-
-pub note_comment-requires-clause-low : goal.note_comment-requires-clause-low
-note_comment-requires-clause-low c =
-    let at : IsAt (length c.args.arena.now.tokens) (ids_of (map segment_bounds c.args.segments.now)) c.loop-id.place c.loop-id.id =
-    at_place (length c.args.arena.now.tokens) c.args.segments.now c.args.number c.loop-id.place c.loop-id.id c.requires.read.rule c.requires.read.within c.requires.number
-    c.loop-id.invariant.least
-    (omega (arith, c.loop-id.invariant.place, c.loop-id.invariant.least, c.loop-id-test.true, c.saturating_sub.ensures, c.min-near.ensures))
-    c.loop-id.invariant.place in
-    omega (arith, at.place, c.requires.read.places, c.requires.read.few)
-
-pub loop-id-preserved-then-is_comment : goal.loop-id-preserved-then-is_comment
-loop-id-preserved-then-is_comment c =
-    let arena = c.args.arena.now in
-    let segments = c.args.segments.now in
-    let ids = ids_of (map segment_bounds segments) in
-    let classes = c.args.classes.now in
-    let partners = c.args.partners.now in
-    let k = c.loop-id.place in
-    let id = c.loop-id.id in
-    let old = c.loop-id.noted.comments.items in
-    let at : IsAt (length c.args.arena.now.tokens) (ids_of (map segment_bounds c.args.segments.now)) c.loop-id.place c.loop-id.id =
-    at_place (length c.args.arena.now.tokens) c.args.segments.now c.args.number c.loop-id.place c.loop-id.id c.requires.read.rule c.requires.read.within c.requires.number
-    c.loop-id.invariant.least
-    (omega (arith, c.loop-id.invariant.place, c.loop-id.invariant.least, c.loop-id-test.true, c.saturating_sub.ensures, c.min-near.ensures))
-    c.loop-id.invariant.place in
-    let here : k < length classes = omega (arith, at.place, c.requires.read.places) in
-    let class = get_or classes k If in
-    let is : is_comment class ≡ true = sym c.is_comment.ensures ∙ c.if-is_comment.true in
-    let P : List ViewComment → Type 0 = λ comments. AreCommentsBefore arena ids classes (k + 1) comments in
-    let noted : c.note_comment.new.comments.items ≡ old ++ record { place = k; part = part_of arena (get_or ids k 0) (nat_lt (length old) k) class } ∷ [] =
-    c.in_ok-note_comment.ensures ∙ ap (λ i. old ++ record { place = k; part = part_of arena i (nat_lt (length old) k) class } ∷ []) (sym at.item) in
-    record {
-      place = omega (arith, c.loop-id.invariant.place);
-      tokens = comment_before arena ids classes partners k If c.loop-id.tokens.items c.loop-id.invariant.tokens here is;
-      comments = subst P (sym noted) (comment_noted arena ids classes k If old c.loop-id.invariant.comments here is);
-      room = c.loop-id.invariant.room;
-      least = omega (arith, c.loop-id.invariant.least);
-      most = omega (arith, c.loop-id.invariant.place, c.loop-id.invariant.least, c.loop-id-test.true, c.saturating_sub.ensures, c.min-near.ensures);
-    }
