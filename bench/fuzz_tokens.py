@@ -15,7 +15,7 @@ UNCLEAN = rb"(?: \[UnClean='(.*?)'\])?"
 TOKEN = re.compile(rb"(\w+) '(.*?)'\t((?: \[[A-Za-z]+\])*)%s\tLoc=<(\d+\.c):(\d+):(\d+)>\n" % UNCLEAN, re.S)
 # At the end of a text clang counts a NUL to an open quote or a comment.
 ENDS = b" \t\n\v\f\r\0"
-EMPTY = [b"L''", b"u''", b"U''"]
+QUOTE = re.compile(rb"(?:u8|[uUL])?[\"']")
 OFF = re.compile(rb"clang-format off(?::.*)?", re.S)
 ON = re.compile(rb"clang-format on(?::.*)?", re.S)
 # What the compilers read otherwise than C11: a late splice, and for clang a return alone.
@@ -105,12 +105,12 @@ class Tokens:
             # clang doesn't always clean the spelling of a comment, so its bytes are compared.
             spelling = TRAILING.sub(b"", raw[LEADING.match(raw).end() :]).rstrip(ENDS)
         elif kind == b"unknown":
-            is_quote = spelling[:1] in (b"'", b'"')
+            is_quote = QUOTE.match(spelling)
             spelling = spelling.rstrip(ENDS) if is_quote else spelling.strip(b" \t\n\v\f\r")
             if spelling[:2] == b"/*":
                 self.add_comment(None, raw, line, column)
             # An empty character constant is no item of C11, and the compilers go on behind it.
-            self.is_read_otherwise |= is_quote and spelling.endswith(b"''") or spelling in EMPTY
+            self.is_read_otherwise |= bool(is_quote) and spelling.endswith(b"''")
         elif kind in (b"raw_identifier", b"numeric_constant"):
             self.is_read_otherwise |= has_other_word_characters(spelling)
         if not spelling:
