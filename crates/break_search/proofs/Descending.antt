@@ -113,12 +113,12 @@ module _ (line : Line) (some : 0 < length line.tokens) (short : length line.toke
       pub try_small : state.cost ≤ 4294967295 * 18446744073709551615
       try_small = omega (arith, goes.cheap, next_index, try_more, short)
 
-      pub try_dear : (least : ℕ) → least ≡ state.cost + least_ahead line (layout_in more state) → most < least → (new : ℕ) → new ≡ min least next → IsDescent line more budget steps most new (after brk)
+      pub try_dear : (least : ℕ) → least ≤ state.cost + least_ahead line (layout_in more state) → most < least → (new : ℕ) → new ≡ min least next → IsDescent line more budget steps most new (after brk)
       try_dear least is dear new lesser = fails new (omega (arith, lesser)) (omega (arith, lesser, dear, at.above)) (λ u k go.
           (let same = functional line (layout_in lists here.state) brk u (layout_in more state) k goes.added (subst (λ (l : Layout). StepOf line l brk u k) at_more go) goes.step in
           omega (arith, lesser, is, goes.cost, same.1, ap (least_ahead line) same.0)))
 
-      module _ (known : IsIn more state) (least : ℕ) (is : least ≡ state.cost + least_ahead line (layout_in more state)) (cheap : least ≤ most) (own : ℕ) (counts : own ≡ here.own + cells_of (layout_in more state)) (within : own ≤ budget) (new : List Step) (pushes : new ≡ (let s : Step = record { state = state; own = own; brk = brk } in s) ∷ steps) where
+      module _ (known : IsIn more state) (cheap : state.cost ≤ most) (own : ℕ) (counts : own ≡ here.own + cells_of (layout_in more state)) (within : own ≤ budget) (new : List Step) (pushes : new ≡ (let s : Step = record { state = state; own = own; brk = brk } in s) ∷ steps) where
         abbrev step : Step
         step = record { state = state; own = own; brk = brk }
 
@@ -139,8 +139,8 @@ module _ (line : Line) (some : 0 < length line.tokens) (short : length line.toke
           least = record {
             reaches = (layout_in more state, leads_to line more budget step (here ∷ top.0) on_new);
             count = omega (arith, count, last, next_index);
-            least = λ other t c size l. not_less c (λ less. at.floor other t c size l (omega (arith, less, is, cheap)));
-            first = λ other t size l. at.left other t state.cost size l (omega (arith, is, cheap, at.above));
+            least = λ other t c size l. not_less c (λ less. at.floor other t c size l (omega (arith, less, cheap)));
+            first = λ other t size l. at.left other t state.cost size l (omega (arith, cheap, at.above));
           };
           own = omega (arith, own_is line more budget step (here ∷ top.0) on_new, within);
           small = try_small;
@@ -211,6 +211,10 @@ module _ (line : Line) (some : 0 < length line.tokens) (lists : List FrameList) 
                 (let past : IsPast (onto (choices e es) [] ++ true ∷ []) w = subst (λ (p : List Bool). IsPast p w) (ap (λ (x : Bool). onto (choices e es) (x ∷ [])) is ∙ onto_tail (choices e es) (true ∷ [])) (h.left w t c size l cheap) in
                 past_break (onto (choices e es) []) w past);
           }
+
+  -- .. and where it was a stay, the break is tried
+  pub back_break : (new : List Step) (x : Step) → steps ≡ x ∷ new → (here.state.index ≡ 1 → ⊥) → here.brk ≡ false → IsTrying line lists budget new most next true
+  back_break new x pops inside stays = subst (λ (c : Bool). IsDescent line lists budget new most next (after c)) stays (back_one new x pops inside)
 
 -- the choices so far, and those that are left, are those of the steps
 pub record AreTaken (steps : List Step) (count : ℕ) (choices : List Bool) (left : List Step) (done : ℕ) : Type 0 where

@@ -3,12 +3,14 @@
 //! The first choices from the left are followed as long as a whole breaking over them may cost no more than a bound,
 //! and where none can, the last stay that was tried becomes a break. So the first whole breaking that is met is the
 //! first of those within the bound, and all that were left out cost more. Where there is none, what they cost at least
-//! is the next bound. Most lines take few turns; others are searched.
+//! is the next bound. Most lines are told by the first bound or the second; others are searched.
 
 ghost use Rattle.std.specs.Prelude.{◌≡◌, ℕ, ◌<◌, ◌≤◌, ◌^◌, List, [], length, IfOk, IfSome};
 ghost use Rattle.line_state.proofs.Ways.{onto};
-ghost use Rattle.line_state.specs.Line.{Line, first_cost};
+ghost use Rattle.line_state.specs.Line.{first_cost};
 ghost use Rattle.frame_store.specs.Store.{FrameList};
+ghost use Rattle.line_state.specs.Layout.{Layout};
+ghost use Rattle.searched_line.specs.Ahead.{least_ahead};
 ghost use Rattle.searched_line.specs.Searched.{IsSearchable};
 ghost use Rattle.break_search.specs.Outcome.{IsOutcome};
 ghost use Rattle.break_search.specs.Descent.{IsTop, IsTrying, IsDescent, IsTurned, IsEnd, after, choices_of};
@@ -17,15 +19,18 @@ use crate::outcome::{Descent, Outcome};
 use crate::searching::tell;
 use crate::trail::{Step, Trail};
 use bumpalo::Bump;
-use frame_store::FrameStore;
+use frame_store::{FrameStore, NodeState};
 use line_state::{NoMemory, cells_in};
 use searched_line::SearchedLine;
 
 /// How many tokens a line has at most that is tried so. Nearly all longer ones take more turns than they are given.
 const MOST_TOKENS: usize = 64;
 
-/// How many turns are taken at most, for each token. Most lines take two or three.
+/// How many turns are taken at most, for each token. Most lines take one or two.
 const TURNS_A_TOKEN: usize = 4;
+
+/// How often the bound rises at most. Few lines are told where it rises again.
+const MOST_RISES: u32 = 1;
 
 /// What is tried next.
 #[derive(Clone, Copy)]
@@ -38,12 +43,41 @@ pub(crate) enum Choice {
     Back,
 }
 
+/// Where a descent stands beside its steps.
+#[derive(Clone, Copy)]
+pub(crate) struct Trying {
+    /// What the breakings cost at most that are tried.
+    pub most: u128,
+    /// What those cost at least that were left out.
+    pub next: u128,
+    /// What is tried next.
+    pub choice: Choice,
+    /// How often the bound may still rise.
+    pub rises: u32,
+}
+
 /// What is tried where a choice leads to nothing.
 #[inline(always)]
 fn after(brk: bool) -> Choice
     ensures { result ≡ after brk }
 {
     if brk { Choice::Back } else { Choice::Break }
+}
+
+/// What is known of what every whole breaking costs at least beyond the state to which a choice led behind a step.
+/// Where no other choice may be nothing is asked, since it is asked behind the next one.
+#[inline(always)]
+fn known_ahead(line: &SearchedLine<'_>, here: &Step, state: &NodeState, brk: bool) -> u64
+    requires line { IsSearchable line.now }
+    requires some { 0 < here.now.state.index }
+    requires more { here.now.state.index < length line.now.tokens }
+    ensures { (layout : Layout) → layout.index ≡ state.now.index → layout.column ≡ state.now.column →
+        result ≤ least_ahead line.now layout }
+{
+    if !brk && line.has_to_stay(&here.state) {
+        return 0;
+    }
+    line.least_ahead(state.index, state.column)
 }
 
 /// Tries a choice behind the last step.
@@ -53,26 +87,25 @@ fn go(
     budget: u64,
     store: &mut FrameStore<'_>,
     trail: &mut Trail<'_>,
-    most: u128,
-    next: &mut u128,
-    choice: &mut Choice,
+    trying: &mut Trying,
     here: &Step,
     brk: bool,
 ) -> Result<Descent, NoMemory>
     requires line { IsSearchable line.now }
     requires budget { budget < 2 ^ 62 }
-    requires tries { IsTrying line.now store.old budget trail.old most next.old brk }
+    requires tries { IsTrying line.now store.old budget trail.old trying.old.most trying.old.next brk }
     requires top { IsTop trail.old here.now }
-    ensures { IfOk result (IsTurned line.now store.new budget trail.new most next.new choice.new) }
+    ensures { IfOk result
+        (IsTurned line.now store.new budget trail.new trying.new.most trying.new.next trying.new.choice) }
 {
     let Some(state) = line.successor(store, &here.state, brk)? else {
-        *choice = after(brk);
+        trying.choice = after(brk);
         return Ok(Descent::Goes);
     };
-    let least = state.cost + u128::from(line.least_ahead(state.index, state.column));
-    if least > most {
-        *next = least.min(*next);
-        *choice = after(brk);
+    let least = state.cost + u128::from(known_ahead(line, here, &state, brk));
+    if least > trying.most {
+        trying.next = least.min(trying.next);
+        trying.choice = after(brk);
         return Ok(Descent::Goes);
     }
     let own = here.own + cells_in(store, &state);
@@ -80,7 +113,7 @@ fn go(
         return Ok(Descent::Stops);
     }
     trail.push(Step { state, own, brk })?;
-    *choice = Choice::Stay;
+    trying.choice = Choice::Stay;
     if state.index as usize == line.count() {
         return Ok(Descent::Ends);
     }
@@ -89,34 +122,39 @@ fn go(
 
 /// Takes the last step back, or begins again with the next bound where there is none but the first token's.
 #[inline(always)]
-fn back(
-    trail: &mut Trail<'_>,
-    most: &mut u128,
-    next: &mut u128,
-    choice: &mut Choice,
-    here: &Step,
-) -> Descent
+fn back(line: &SearchedLine<'_>, trail: &mut Trail<'_>, trying: &mut Trying, here: &Step) -> Descent
+    requires line { IsSearchable line.now }
     requires top { IsTop trail.old here.now }
-    ensures { (line : Line) (lists : List FrameList) (budget : ℕ) → 0 < length line.tokens →
-        IsDescent line lists budget trail.old most.old next.old Choice.Back →
-        IsTurned line lists budget trail.new most.new next.new choice.new result }
+    requires descent { (lists : List FrameList) × (budget : ℕ)
+        × IsDescent line.now lists budget trail.old trying.old.most trying.old.next Choice.Back }
+    ensures { (lists : List FrameList) (budget : ℕ) →
+        IsDescent line.now lists budget trail.old trying.old.most trying.old.next Choice.Back →
+        IsTurned line.now lists budget trail.new trying.new.most trying.new.next trying.new.choice result }
 {
     if here.state.index == 1 {
-        if *next < u128::MAX {
-            *most = *next;
-            *next = u128::MAX;
-            *choice = Choice::Stay;
+        if trying.next < u128::MAX && trying.rises > 0 {
+            trying.most = trying.next;
+            trying.next = u128::MAX;
+            trying.choice = Choice::Stay;
+            trying.rises -= 1;
             return Descent::Goes;
         }
         return Descent::Stops;
     }
-    match trail.pop() {
-        Some(_) => {
-            *choice = after(here.brk);
-            Descent::Goes
-        }
-        None => Descent::Stops,
+    let Some(_) = trail.pop() else {
+        return Descent::Stops;
+    };
+    trying.choice = after(here.brk);
+    if here.brk {
+        return Descent::Goes;
     }
+    let Some(below) = trail.top() else {
+        return Descent::Stops;
+    };
+    if line.has_to_stay(&below.state) {
+        trying.choice = Choice::Back;
+    }
+    Descent::Goes
 }
 
 /// Takes a turn.
@@ -126,30 +164,27 @@ fn turn(
     budget: u64,
     store: &mut FrameStore<'_>,
     trail: &mut Trail<'_>,
-    most: &mut u128,
-    next: &mut u128,
-    choice: &mut Choice,
+    trying: &mut Trying,
 ) -> Result<Descent, NoMemory>
     requires line { IsSearchable line.now }
     requires budget { budget < 2 ^ 62 }
-    requires descent { IsDescent line.now store.old budget trail.old most.old next.old choice.old }
-    ensures { IfOk result (IsTurned line.now store.new budget trail.new most.new next.new choice.new) }
+    requires descent { IsDescent line.now store.old budget trail.old trying.old.most trying.old.next trying.old.choice }
+    ensures { IfOk result
+        (IsTurned line.now store.new budget trail.new trying.new.most trying.new.next trying.new.choice) }
 {
     let Some(here) = trail.top() else {
         return Ok(Descent::Stops);
     };
-    match *choice {
-        Choice::Stay => go(
-            line, budget, store, trail, *most, next, choice, &here, false,
-        ),
+    match trying.choice {
+        Choice::Stay => go(line, budget, store, trail, trying, &here, false),
         Choice::Break => {
             if line.has_to_stay(&here.state) {
-                *choice = Choice::Back;
+                trying.choice = Choice::Back;
                 return Ok(Descent::Goes);
             }
-            go(line, budget, store, trail, *most, next, choice, &here, true)
+            go(line, budget, store, trail, trying, &here, true)
         }
-        Choice::Back => Ok(back(trail, most, next, choice, &here)),
+        Choice::Back => Ok(back(line, trail, trying, &here)),
     }
 }
 
@@ -163,7 +198,7 @@ fn breaks_of<'r>(
     ensures { IfOk result (λ v. v.items ≡ onto (choices_of trail.old) []) }
 {
     let mut breaks = Vec::with_capacity(run, count as usize)?;
-    'back: for done in 0..count {
+    for done in 0..count {
         let Some(step) = trail.pop() else {
             unreachable!()
         };
@@ -215,19 +250,14 @@ fn take_turns<'r>(
         Choice.Stay }
     ensures { IfOk result (λ found. IfSome found (IsOutcome line.now budget)) }
 {
-    let mut most = u128::from(least);
-    let mut next = u128::MAX;
-    let mut choice = Choice::Stay;
-    'turns: for turned in 0..line.count() * TURNS_A_TOKEN {
-        match turn(
-            line,
-            budget,
-            store,
-            trail,
-            &mut most,
-            &mut next,
-            &mut choice,
-        )? {
+    let mut trying = Trying {
+        most: u128::from(least),
+        next: u128::MAX,
+        choice: Choice::Stay,
+        rises: MOST_RISES,
+    };
+    'turns: for _ in 0..line.count() * TURNS_A_TOKEN {
+        match turn(line, budget, store, trail, &mut trying)? {
             Descent::Goes => {}
             Descent::Stops => return Ok(None),
             Descent::Ends => {
