@@ -8,3 +8,4 @@ pub mod SimpleLemmas
 pub mod TurnLemmas
 pub mod EndLemmas
 pub mod ColonLemmas
+pub mod TokenLemmas

@@ -3,3 +3,4 @@ pub mod Tree
 pub mod Stack
 pub mod Wrapping
 pub mod Colons
+pub mod Tokens

@@ -9,7 +9,7 @@ ghost use Rattle.statement_lines.specs.Forms.{case_colon};
 ghost use Rattle.statement_lines.specs.Colons.{AreColonsFrom, AreCaseColons};
 
 use crate::lookups::{class_at, step_over};
-use crate::token::CodeToken;
+use crate::token::CodeTokens;
 use bumpalo::Bump;
 use line_tokens::NoMemory;
 
@@ -17,29 +17,30 @@ use line_tokens::NoMemory;
 const NEAR: usize = 16;
 
 /// The first colon at a place or behind it that answers no question mark, by those of the places behind it.
-fn colon_from(tokens: &[CodeToken], colons: &[u32], place: usize) -> usize
+fn colon_from(tokens: &CodeTokens<'_>, colons: &[u32], place: usize) -> usize
     requires here { place < length tokens.now }
     requires few { length tokens.now < 2 ^ 30 }
     requires behind { AreColonsFrom (place + 1) colons.now tokens.now }
     ensures { result ≡ case_colon (length tokens.now - place) tokens.now (length tokens.now) place 0 }
 {
+    let count = tokens.count();
     let class = class_at(tokens, place);
     if class.is_question() {
         let answer = colons[place + 1] as usize;
-        if answer < tokens.len() {
+        if answer < count {
             colons[answer + 1] as usize
         } else {
-            tokens.len()
+            count
         }
     } else if class.is_colon() {
         place
     } else {
-        colons[step_over(tokens, tokens.len(), place)] as usize
+        colons[step_over(tokens, count, place)] as usize
     }
 }
 
 /// The colon of the `case` at a place, or the end of its list where it has none, looked for from there on.
-fn scan_colon(tokens: &[CodeToken], end: usize, at: usize) -> usize
+fn scan_colon(tokens: &CodeTokens<'_>, end: usize, at: usize) -> usize
     requires here { at < end }
     requires list { end ≤ length tokens.now }
     ensures same { result ≡ case_colon (end - (at + 1)) tokens.now end (at + 1) 0 }
@@ -66,12 +67,12 @@ fn scan_colon(tokens: &[CodeToken], end: usize, at: usize) -> usize
 }
 
 /// Puts the colon of each place there, from the last on.
-fn fill_colons(tokens: &[CodeToken], colons: &mut [u32])
+fn fill_colons(tokens: &CodeTokens<'_>, colons: &mut [u32])
     requires few { length tokens.now < 2 ^ 30 }
     requires last { AreColonsFrom (length tokens.now) colons.old tokens.now }
     ensures { AreColonsFrom 0 colons.new tokens.now }
 {
-    let mut place = tokens.len();
+    let mut place = tokens.count();
     while place > 0 {
         place -= 1;
         let colon = colon_from(tokens, colons, place);
@@ -80,11 +81,11 @@ fn fill_colons(tokens: &[CodeToken], colons: &mut [u32])
 }
 
 /// The colon of each place.
-fn all_colons<'r>(tokens: &[CodeToken], run: &'r Bump) -> Result<Vec<u32, &'r Bump>, NoMemory>
+fn all_colons<'r>(tokens: &CodeTokens<'_>, run: &'r Bump) -> Result<Vec<u32, &'r Bump>, NoMemory>
     requires few { length tokens.now < 2 ^ 30 }
     ensures { IfOk result (λ colons. AreColonsFrom 0 colons.items tokens.now) }
 {
-    let count = tokens.len();
+    let count = tokens.count();
     let mut colons = vec![in run; count as u32; count + 1]?;
     fill_colons(tokens, &mut colons);
     Ok(colons)
@@ -96,7 +97,7 @@ fn all_colons<'r>(tokens: &[CodeToken], run: &'r Bump) -> Result<Vec<u32, &'r Bu
 /// `cases` are the places of tokens that are a `case`; which of them are told changes no line. Want of memory is the
 /// only error.
 pub fn case_colons<'r>(
-    tokens: &[CodeToken],
+    tokens: &CodeTokens<'_>,
     cases: &[usize],
     run: &'r Bump,
 ) -> Result<Vec<u32, &'r Bump>, NoMemory>
@@ -105,7 +106,7 @@ pub fn case_colons<'r>(
 {
     for case in cases {
         let place = *case;
-        if NEAR < tokens.len().saturating_sub(place) {
+        if NEAR < tokens.count().saturating_sub(place) {
             let near = place + NEAR;
             if scan_colon(tokens, near, place) == near {
                 return all_colons(tokens, run);
@@ -116,7 +117,7 @@ pub fn case_colons<'r>(
 }
 
 /// The colon of the `case` at a place, or the end of its list where it has none.
-pub(crate) fn label_colon(tokens: &[CodeToken], colons: &[u32], end: usize, at: usize) -> usize
+pub(crate) fn label_colon(tokens: &CodeTokens<'_>, colons: &[u32], end: usize, at: usize) -> usize
     requires here { at < end }
     requires list { end ≤ length tokens.now }
     requires colons { AreCaseColons colons.now tokens.now }

@@ -10,7 +10,7 @@ use crate::braces::Braces;
 use crate::form::{Form, Next};
 use crate::forms::form_of;
 use crate::open::{Open, Start};
-use crate::token::CodeToken;
+use crate::token::CodeTokens;
 use crate::tree::{Place, go_behind, push_open, whole_file};
 use bumpalo::Bump;
 use line_tokens::NoMemory;
@@ -18,7 +18,7 @@ use line_tokens::NoMemory;
 /// Passes over a line, and over its block where that ends before the list around it.
 fn skip_line(
     braces: &Braces,
-    tokens: &[CodeToken],
+    tokens: &CodeTokens<'_>,
     stack: &mut Vec<Open, &Bump>,
     opened: Open,
     place: Place,
@@ -71,7 +71,7 @@ fn level_of_list(innermost: Open, below: &[Open]) -> u32
 /// Want of memory is the only error.
 pub fn end_level(
     braces: &Braces,
-    tokens: &[CodeToken],
+    tokens: &CodeTokens<'_>,
     colons: &[u32],
     run: &Bump,
 ) -> Result<u32, NoMemory>

@@ -8,7 +8,7 @@ ghost use Rattle.statement_lines.specs.declared.open.Head.TheVariants.{Plain};
 ghost use Rattle.std.specs.Bool.{OnTrue, OnFalse};
 ghost use Rattle.token_classes.specs.Classes.{is_open_brace};
 ghost use Rattle.statement_lines.specs.Colons.{AreCaseColons};
-ghost use Rattle.statement_lines.specs.Forms.{class_at, seen, after_group, block_end, began_at, touched_at};
+ghost use Rattle.statement_lines.specs.Forms.{class_at, seen, after_group, block_end};
 ghost use Rattle.statement_lines.specs.Forms.{has_no_partner, enumerator_end, statement_stop, tag_before, block_at};
 ghost use Rattle.statement_lines.specs.Forms.{label_form, goto_level, label, header_end, head_of, control_block};
 ghost use Rattle.statement_lines.specs.Forms.{control_form, tail_end, ends_macro, macro_end, tagged_kind, wraps_tagged};
@@ -17,11 +17,9 @@ ghost use Rattle.statement_lines.specs.Forms.{unlabelled, statement, close_form,
 
 use crate::braces::Braces;
 use crate::form::{Form, Next};
-use crate::lookups::{
-    after_group, began_at, block_end, class_at, has_no_partner, seen, touched_at,
-};
+use crate::lookups::{after_group, block_end, class_at, has_no_partner, seen};
 use crate::open::{Context, Head, Open, Start};
-use crate::token::CodeToken;
+use crate::token::CodeTokens;
 use crate::{colons, scans};
 use line_tokens::LineKind;
 use token_classes::TokenClass;
@@ -29,7 +27,7 @@ use token_classes::TokenClass;
 /// A block at the brace at `place`.
 #[inline(always)]
 fn block_at(
-    tokens: &[CodeToken],
+    tokens: &CodeTokens<'_>,
     end: usize,
     place: usize,
     context: Context,
@@ -56,7 +54,7 @@ fn block_at(
 
 #[inline(always)]
 fn label_form(
-    tokens: &[CodeToken],
+    tokens: &CodeTokens<'_>,
     opened: Open,
     kind: LineKind,
     level: u32,
@@ -110,7 +108,7 @@ fn goto_level(braces: &Braces, opened: Open) -> u32
 #[inline(always)]
 fn label(
     braces: &Braces,
-    tokens: &[CodeToken],
+    tokens: &CodeTokens<'_>,
     colons: &[u32],
     opened: Open,
     at: usize,
@@ -152,7 +150,7 @@ fn label(
             at + 1,
         ));
     }
-    if c.is_plain() && opened.context.is_code() && !touched_at(tokens, at + 1) {
+    if c.is_plain() && opened.context.is_code() && !tokens.touched_at(at + 1) {
         return Some(label_form(
             tokens,
             opened,
@@ -167,7 +165,7 @@ fn label(
 
 /// The end of the header of a control word.
 #[inline(always)]
-fn header_end(tokens: &[CodeToken], end: usize, at: usize) -> usize
+fn header_end(tokens: &CodeTokens<'_>, end: usize, at: usize) -> usize
     requires here { at < end }
     requires list { end ≤ length tokens.now }
     requires small { length tokens.now < 2 ^ 30 }
@@ -188,7 +186,7 @@ fn header_end(tokens: &[CodeToken], end: usize, at: usize) -> usize
 }
 
 #[inline(always)]
-fn head_of(tokens: &[CodeToken], end: usize, at: usize) -> Head
+fn head_of(tokens: &CodeTokens<'_>, end: usize, at: usize) -> Head
     requires here { at < end }
     requires list { end ≤ length tokens.now }
     ensures { result ≡ head_of tokens.now end at }
@@ -208,7 +206,7 @@ fn head_of(tokens: &[CodeToken], end: usize, at: usize) -> Head
 #[inline(always)]
 fn control_block(
     braces: &Braces,
-    tokens: &[CodeToken],
+    tokens: &CodeTokens<'_>,
     end: usize,
     place: usize,
     head: Head,
@@ -266,7 +264,7 @@ fn kind_or_close(closes: bool, kind: LineKind) -> LineKind
 #[inline(always)]
 fn control_form(
     braces: &Braces,
-    tokens: &[CodeToken],
+    tokens: &CodeTokens<'_>,
     opened: Open,
     closes: bool,
     level: u32,
@@ -301,7 +299,7 @@ fn control_form(
 
 /// The end of the tail of a `do`, or the place where there is none.
 #[inline(always)]
-pub(crate) fn tail_end(tokens: &[CodeToken], end: usize, place: usize) -> usize
+pub(crate) fn tail_end(tokens: &CodeTokens<'_>, end: usize, place: usize) -> usize
     requires { place < 2 ^ 33 }
     ensures same { result ≡ tail_end tokens.now end place }
     ensures least { place ≤ result }
@@ -316,16 +314,16 @@ pub(crate) fn tail_end(tokens: &[CodeToken], end: usize, place: usize) -> usize
 }
 
 #[inline(always)]
-fn ends_macro(tokens: &[CodeToken], place: usize) -> bool
+fn ends_macro(tokens: &CodeTokens<'_>, place: usize) -> bool
     ensures { result ≡ ends_macro tokens.now place }
 {
-    tokens.len() <= place
-        || (began_at(tokens, place)
+    tokens.count() <= place
+        || (tokens.began_at(place)
             && (class_at(tokens, place).is_word() || class_at(tokens, place).is_close_brace()))
 }
 
 #[inline(always)]
-fn macro_end(tokens: &[CodeToken], end: usize, at: usize) -> usize
+fn macro_end(tokens: &CodeTokens<'_>, end: usize, at: usize) -> usize
     requires here { at < end }
     requires list { end ≤ length tokens.now }
     ensures same { result ≡ macro_end tokens.now end at }
@@ -386,7 +384,7 @@ fn tagged_context(class: TokenClass) -> Context
 #[inline(always)]
 fn other_form(
     braces: &Braces,
-    tokens: &[CodeToken],
+    tokens: &CodeTokens<'_>,
     opened: Open,
     closes: bool,
     level: u32,
@@ -455,7 +453,7 @@ pub(crate) fn line_alone(kind: LineKind, level: u32, end: usize) -> Form
 /// A line that opens a block of code at its end.
 #[inline(always)]
 fn opens_code(
-    tokens: &[CodeToken],
+    tokens: &CodeTokens<'_>,
     opened: Open,
     kind: LineKind,
     brace: usize,
@@ -494,7 +492,7 @@ fn opens_code(
 
 /// The head of an extern block, whose brace stands two places behind.
 #[inline(always)]
-fn extern_form(braces: &Braces, tokens: &[CodeToken], opened: Open, at: usize) -> Form
+fn extern_form(braces: &Braces, tokens: &CodeTokens<'_>, opened: Open, at: usize) -> Form
     requires here { at + 2 < opened.end }
     requires low { opened.level < 2 ^ 31 }
     ensures same { result
@@ -528,7 +526,7 @@ fn extern_form(braces: &Braces, tokens: &[CodeToken], opened: Open, at: usize) -
 
 /// The cases behind labels and control statements.
 #[inline(always)]
-fn unlabelled(braces: &Braces, tokens: &[CodeToken], opened: Open, at: usize) -> Form
+fn unlabelled(braces: &Braces, tokens: &CodeTokens<'_>, opened: Open, at: usize) -> Form
     requires here { at < opened.end }
     requires list { opened.end ≤ length tokens.now }
     requires small { length tokens.now < 2 ^ 30 }
@@ -564,7 +562,7 @@ fn unlabelled(braces: &Braces, tokens: &[CodeToken], opened: Open, at: usize) ->
 #[inline(always)]
 pub(crate) fn statement(
     braces: &Braces,
-    tokens: &[CodeToken],
+    tokens: &CodeTokens<'_>,
     colons: &[u32],
     opened: Open,
     at: usize,
@@ -603,7 +601,7 @@ pub(crate) fn statement(
 #[inline(always)]
 pub(crate) fn close_form(
     braces: &Braces,
-    tokens: &[CodeToken],
+    tokens: &CodeTokens<'_>,
     opened: Open,
     around: Open,
     at: usize,
@@ -652,7 +650,7 @@ pub(crate) fn close_form(
 #[inline(always)]
 pub(crate) fn form_of(
     braces: &Braces,
-    tokens: &[CodeToken],
+    tokens: &CodeTokens<'_>,
     colons: &[u32],
     opened: Open,
     start: Start,
@@ -669,7 +667,7 @@ pub(crate) fn form_of(
     ensures stays { StaysIn at opened result result.next }
     ensures level { result.level ≤ 2 * at }
 {
-    let count = tokens.len();
+    let count = tokens.count();
     prove!(opened.end <= count);
     match start {
         Start::Fresh => {}

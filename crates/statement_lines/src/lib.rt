@@ -23,5 +23,5 @@ pub use colons::case_colons;
 pub use ending::end_level;
 pub use line::Line;
 pub use line_tokens::NoMemory;
-pub use token::CodeToken;
+pub use token::{CodeToken, CodeTokens, Places};
 pub use tree::tree_lines;

@@ -8,13 +8,13 @@ ghost use Rattle.statement_lines.specs.Forms.{enumerator_end, statement_stop, ca
 ghost use Rattle.statement_lines.specs.Forms.{partner_of, opens_block, assigns, is_member_word, class_at};
 
 use crate::form::Stop;
-use crate::lookups::{class_at, step_over, token_at};
-use crate::token::CodeToken;
+use crate::lookups::{class_at, step_over};
+use crate::token::CodeTokens;
 use token_classes::TokenClass;
 
 /// The end of an enumerator, its comma included.
 #[inline(always)]
-pub(crate) fn enumerator_end(tokens: &[CodeToken], end: usize, at: usize) -> usize
+pub(crate) fn enumerator_end(tokens: &CodeTokens<'_>, end: usize, at: usize) -> usize
     requires here { at < end }
     requires list { end ≤ length tokens.now }
     ensures same { result ≡ enumerator_end (end - at) tokens.now end at }
@@ -31,7 +31,7 @@ pub(crate) fn enumerator_end(tokens: &[CodeToken], end: usize, at: usize) -> usi
     end
 }
 
-fn assigns(tokens: &[CodeToken], assigned: bool, place: usize) -> bool
+fn assigns(tokens: &CodeTokens<'_>, assigned: bool, place: usize) -> bool
     ensures { result ≡ assigns tokens.now assigned place }
 {
     assigned || class_at(tokens, place).is_assigning()
@@ -44,7 +44,7 @@ pub(crate) fn is_member_word(class: TokenClass) -> bool
     class.is_struct() || class.is_union()
 }
 
-fn opens_block(tokens: &[CodeToken], assigned: bool, place: usize) -> bool
+fn opens_block(tokens: &CodeTokens<'_>, assigned: bool, place: usize) -> bool
     ensures { result ≡ opens_block tokens.now assigned place }
 {
     if !class_at(tokens, place).is_open_brace() {
@@ -81,7 +81,12 @@ fn is_still(class: TokenClass) -> bool
 /// Where a statement that is no other case ends.
 #[inline(always)]
 #[tactic(auto, using(crate::proofs::ScanLemmas::stop_at_end))]
-pub(crate) fn statement_stop(tokens: &[CodeToken], end: usize, from: usize, assigned: bool) -> Stop
+pub(crate) fn statement_stop(
+    tokens: &CodeTokens<'_>,
+    end: usize,
+    from: usize,
+    assigned: bool,
+) -> Stop
     requires here { from ≤ end }
     requires list { end ≤ length tokens.now }
     ensures same { result ≡ statement_stop (end - from) tokens.now end from assigned }
@@ -92,7 +97,7 @@ pub(crate) fn statement_stop(tokens: &[CodeToken], end: usize, from: usize, assi
     ensures takes { OnFalse result.opens (from < end → from < result.at) }
 {
     // The compiler, told that the end stands within the tokens, leaves the checks of bounds out of the loop.
-    let count = tokens.len();
+    let count = tokens.count();
     prove!(end <= count);
     let mut i = from;
     let mut assigned = assigned;
@@ -127,7 +132,7 @@ pub(crate) fn statement_stop(tokens: &[CodeToken], end: usize, from: usize, assi
 }
 
 /// The opener of the group that ends before a place and stands after a call word, otherwise 0.
-fn call_opener(tokens: &[CodeToken], first: usize, place: usize) -> usize
+fn call_opener(tokens: &CodeTokens<'_>, first: usize, place: usize) -> usize
     requires { 0 < place }
     ensures same { result ≡ call_opener tokens.now first place }
     ensures most { 0 < result → result < place }
@@ -145,18 +150,15 @@ fn call_opener(tokens: &[CodeToken], first: usize, place: usize) -> usize
 }
 
 /// The partner of a place, if it stands before it and after `first`, otherwise 0.
-fn behind(tokens: &[CodeToken], first: usize, at: usize) -> usize
+fn behind(tokens: &CodeTokens<'_>, first: usize, at: usize) -> usize
     ensures same { result ≡ behind first at (partner_of (slice_get tokens.now at)) }
     ensures most { 0 < result → result < at }
 {
-    match token_at(tokens, at) {
-        Some(t) => match t.partner.place() {
-            Some(place) => {
-                let p = place as usize;
-                if first < p && p < at { p } else { 0 }
-            }
-            None => 0,
-        },
+    match tokens.partner_at(at) {
+        Some(place) => {
+            let p = place as usize;
+            if first < p && p < at { p } else { 0 }
+        }
         None => 0,
     }
 }
@@ -164,7 +166,7 @@ fn behind(tokens: &[CodeToken], first: usize, at: usize) -> usize
 /// `struct`, `union` or `enum` before the brace.
 #[inline(always)]
 #[tactic(auto, using(crate::proofs::ScanLemmas::tag_at_end, crate::proofs::ScanLemmas::tag_member, crate::proofs::ScanLemmas::tag_other))]
-pub(crate) fn tag_before(tokens: &[CodeToken], first: usize, brace: usize) -> TokenClass
+pub(crate) fn tag_before(tokens: &CodeTokens<'_>, first: usize, brace: usize) -> TokenClass
     requires { brace ≤ length tokens.now }
     ensures { result ≡ tag_before (brace - first) tokens.now first brace Nothing }
 {

@@ -9,11 +9,11 @@ ghost use Rattle.statement_lines.specs.Forms.{form_of, is_enumerators, other_for
 use crate::lookups::{after_group, class_at, seen};
 use crate::open::{Open, Start};
 use crate::scans::statement_stop;
-use crate::token::CodeToken;
+use crate::token::CodeTokens;
 
 /// Whether a statement is known to be none of the other cases by its first tokens.
 #[inline(always)]
-fn is_no_case(tokens: &[CodeToken], opened: Open, at: usize) -> bool
+fn is_no_case(tokens: &CodeTokens<'_>, opened: Open, at: usize) -> bool
     requires list { opened.end ≤ length tokens.now }
     requires statements { is_enumerators opened.context ≡ false }
     ensures { result ≡ true → (braces : Braces) →
@@ -22,7 +22,7 @@ fn is_no_case(tokens: &[CodeToken], opened: Open, at: usize) -> bool
     if opened.end <= at {
         return false;
     }
-    let count = tokens.len();
+    let count = tokens.count();
     prove!(opened.end <= count);
     let class = class_at(tokens, at);
     if class.is_control() || class.is_case() || class.is_default() || class.is_extern() {
@@ -49,7 +49,7 @@ fn is_no_case(tokens: &[CodeToken], opened: Open, at: usize) -> bool
 /// The end of the line at a place, where its first tokens tell that it is a simple one and leaves all lists open.
 #[inline(always)]
 pub(crate) fn simple_end(
-    tokens: &[CodeToken],
+    tokens: &CodeTokens<'_>,
     opened: Open,
     start: Start,
     at: usize,

@@ -15,7 +15,7 @@ use crate::line::Line;
 use crate::lookups::seen;
 use crate::open::{Context, Head, Open, Start};
 use crate::simple::simple_end;
-use crate::token::CodeToken;
+use crate::token::CodeTokens;
 use bumpalo::Bump;
 use line_tokens::{LineKind, NoMemory};
 
@@ -32,7 +32,7 @@ pub struct Place {
 /// Ends the headers that waited for the statement that has ended.
 #[inline(always)]
 #[tactic(auto, using(crate::proofs::Lists::reverse_snoc))]
-pub(crate) fn settle(tokens: &[CodeToken], stack: &mut Vec<Open, &Bump>, at: usize) -> Start
+pub(crate) fn settle(tokens: &CodeTokens<'_>, stack: &mut Vec<Open, &Bump>, at: usize) -> Start
     requires { at < 2 ^ 33 }
     ensures same { settled tokens.now at (reverse stack.old.items)
         ≡ record { opens = reverse stack.new.items; start = result } }
@@ -170,7 +170,7 @@ pub(crate) fn body_of(opened: Open, head: Head, level: u32) -> Open
 }
 
 /// All tokens as a list.
-pub(crate) fn whole_file(tokens: &[CodeToken]) -> Open
+pub(crate) fn whole_file(tokens: &CodeTokens<'_>) -> Open
     ensures { result ≡ whole_file tokens.now }
 {
     Open {
@@ -178,7 +178,7 @@ pub(crate) fn whole_file(tokens: &[CodeToken]) -> Open
         context: Context::File,
         level: 0,
         case_level: 0,
-        end: tokens.len(),
+        end: tokens.count(),
         head: Head::Plain,
         head_level: 0,
         assigned: false,
@@ -189,7 +189,7 @@ pub(crate) fn whole_file(tokens: &[CodeToken]) -> Open
 #[inline(always)]
 fn leave_list(
     braces: &Braces,
-    tokens: &[CodeToken],
+    tokens: &CodeTokens<'_>,
     out: &[Line],
     stack: &mut Vec<Open, &Bump>,
     opened: Open,
@@ -239,7 +239,7 @@ fn push_form(
 /// Opens what a line of the innermost list leaves open, or ends what it ends, and tells what begins behind it.
 #[inline(always)]
 pub(crate) fn go_behind(
-    tokens: &[CodeToken],
+    tokens: &CodeTokens<'_>,
     stack: &mut Vec<Open, &Bump>,
     opened: Open,
     formed: Form,
@@ -273,7 +273,7 @@ pub(crate) fn go_behind(
 #[inline(always)]
 fn take_line(
     braces: &Braces,
-    tokens: &[CodeToken],
+    tokens: &CodeTokens<'_>,
     out: &mut Vec<Line, &Bump>,
     stack: &mut Vec<Open, &Bump>,
     opened: Open,
@@ -304,7 +304,7 @@ fn take_line(
 #[inline(never)]
 pub fn tree_lines<'r>(
     braces: &Braces,
-    tokens: &[CodeToken],
+    tokens: &CodeTokens<'_>,
     colons: &[u32],
     run: &'r Bump,
 ) -> Result<Vec<Line, &'r Bump>, NoMemory>
@@ -313,7 +313,7 @@ pub fn tree_lines<'r>(
     ensures same { IfOk result (λ r. r.items ≡ lines_of braces.now tokens.now) }
     ensures cut { IfOk result (λ r. IsCut 0 (length tokens.now) r.items) }
 {
-    let mut out = Vec::with_capacity(run, tokens.len() / TOKENS_IN_A_LINE)?;
+    let mut out = Vec::with_capacity(run, tokens.count() / TOKENS_IN_A_LINE)?;
     let mut stack = Vec::new(run);
     push_open(&mut stack, whole_file(tokens))?;
     let mut place = Place {
@@ -349,7 +349,7 @@ fn start_behind(opened: Open, formed: Form) -> Option<Start>
 #[inline(always)]
 fn turn(
     braces: &Braces,
-    tokens: &[CodeToken],
+    tokens: &CodeTokens<'_>,
     colons: &[u32],
     out: &mut Vec<Line, &Bump>,
     stack: &mut Vec<Open, &Bump>,

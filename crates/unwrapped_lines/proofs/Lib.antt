@@ -2,7 +2,9 @@ pub mod CutLemmas
 pub mod Started
 pub mod PlainLemmas
 pub mod NumberLemmas
-pub mod SegmentLemmas
+pub mod Joins
+pub mod Tokens
+pub mod Noted
 pub mod Passed
 pub mod CommentParts
 pub mod EndsWithToken

@@ -1,14 +1,12 @@
 -- What the code's functions tell each other of a view. No contract of a public function cites it.
-use Rattle.std.specs.Prelude.{◌≡◌, ◌≤◌, ℕ, zero, suc, ◌+◌, ◌-◌, nat_eq, nat_lt, true, false, Option, Some, None, List}
-use Rattle.std.specs.Prelude.{Bool, ◌&&◌, [], ◌∷◌, ◌++◌, length, map, drop, get_or, if◌then◌else◌}
-use Rattle.token_arena.specs.declared.view.Segment.{Segment}
+use Rattle.std.specs.Prelude.{◌≡◌, ◌<◌, ◌≤◌, ℕ, zero, suc, ◌+◌, nat_eq, nat_lt, true, false, Option, Some, None, List}
+use Rattle.std.specs.Prelude.{Bool, ◌&&◌, [], ◌∷◌, ◌++◌, length, drop, get_or, slice_get, if◌then◌else◌}
 use Rattle.token_arena.specs.Gaps.{Contents}
-use Rattle.token_arena.specs.Segments.{ids_of, segment_bounds, AreSegments}
-use Rattle.item_classes.specs.Viewed.{AreWithin}
-use Rattle.c_chars.specs.declared.TheConstants.{LIMIT}
 use Rattle.token_classes.specs.declared.class.TokenClass.{TokenClass}
-use Rattle.token_classes.specs.Classes.{is_comment}
+use Rattle.token_classes.specs.declared.class.TokenClass.TheVariants.{Case, Colon, LineComment, BlockComment, Nothing}
+use Rattle.token_classes.specs.Classes.{is_colon, is_comment}
 use Rattle.statement_lines.specs.declared.token.CodeToken.{CodeToken}
+use Rattle.statement_lines.specs.Tokens.{is_touched}
 use Rattle.item_classes.specs.declared.part.Part.{Part}
 use Rattle.item_classes.specs.declared.part.Part.TheVariants.{Token, Own, Trailing, Inner}
 use Rattle.line_tokens.specs.declared.line.LineKind.TheVariants.{Comment}
@@ -23,35 +21,35 @@ use Rattle.statement_lines.specs.declared.braces.Braces.{Braces}
 use Rattle.unwrapped_lines.specs.Comments.{Tree, begins_from, no_marks, begin_of, is_apart, is_own, own_level, run_of}
 use Rattle.unwrapped_lines.specs.Lines.{lines_between}
 use Rattle.statement_lines.specs.Tree.{lines_of, end_level}
-use Rattle.unwrapped_lines.specs.Viewed.{numbers_of, token_at, code_places_from, code_tokens, parts_of}
+use Rattle.unwrapped_lines.specs.Viewed.{colon_touches, parts_of}
 use Rattle.item_classes.specs.Part.{part_of}
 
 -- ## Tokens that are no comments
 
--- those of the partners at all places, and behind them none
-abbrev pub partner_numbers : List TokenClass → List (Option ℕ)
-partner_numbers classes = map (λ n. Some n) (numbers_of classes) ++ None ∷ []
+-- their classes
+abbrev pub code_classes : List TokenClass → List TokenClass
+code_classes [] = []
+code_classes (c ∷ cs) = if is_comment c then code_classes cs else c ∷ code_classes cs
 
--- these are the tokens of a view that stand before a place
-pub record AreTokensBefore (arena : Contents) (ids : List ℕ) (classes : List TokenClass) (partners : List (Option ℕ))
-    (k : ℕ) (tokens : List CodeToken) : Type 0 where
-  pub same : tokens ++ map (token_at arena ids classes partners) (code_places_from k (drop k classes))
-      ≡ code_tokens arena ids classes partners
-  pub few : length tokens ≤ k
+-- their partners
+abbrev pub code_partners : List TokenClass → List (Option ℕ) → List (Option ℕ)
+code_partners [] ps = []
+code_partners (c ∷ cs) [] = []
+code_partners (c ∷ cs) (p ∷ ps) = if is_comment c then code_partners cs ps else p ∷ code_partners cs ps
 
--- a view is read by its segments: these stand in order, their items in the arena, and each has a class and a number
-pub record AreRead (arena : Contents) (segments : List Segment) (classes : List TokenClass) (numbers : List (Option ℕ))
-    : Type 0 where
-  pub rule : AreSegments segments
-  pub within : AreWithin arena (ids_of (map segment_bounds segments))
-  pub places : length classes ≡ length (ids_of (map segment_bounds segments))
-  pub few : length classes ≤ LIMIT
-  pub items : length arena.tokens ≤ LIMIT
-  pub same : numbers ≡ partner_numbers classes
+-- so many of these, from the first on, are no comments
+abbrev pub AreCodeFirst : ℕ → List TokenClass → Type 0
+AreCodeFirst zero cs = Unit {0}
+AreCodeFirst (suc n) [] = Unit {0}
+AreCodeFirst (suc n) (c ∷ cs) = (is_comment c ≡ false) × AreCodeFirst n cs
 
--- the first place behind a segment
-abbrev pub segment_stop : Segment → ℕ
-segment_stop segment = segment.before + (segment.end - segment.first)
+-- an item that is neither a comment nor a colon nor a `case`
+abbrev pub is_usual : TokenClass → Bool
+is_usual Case = false
+is_usual Colon = false
+is_usual LineComment = false
+is_usual BlockComment = false
+is_usual _ = true
 
 -- ## Comments
 
@@ -64,6 +62,15 @@ comments_from arena ids k n (c ∷ cs) =
     ∷ comments_from arena ids (k + 1) (n + 1) cs
     else comments_from arena ids (k + 1) n cs
 
+-- the places of comments, where the first class stands at this place
+abbrev pub comment_places_from : ℕ → List TokenClass → List ℕ
+comment_places_from k [] = []
+comment_places_from k (c ∷ cs) =
+    if is_comment c then k ∷ comment_places_from (k + 1) cs else comment_places_from (k + 1) cs
+
+abbrev pub comment_place : ViewComment → ℕ
+comment_place comment = comment.place
+
 -- the comments of a view
 abbrev pub comments_of : Contents → List ℕ → List TokenClass → List ViewComment
 comments_of arena ids classes = comments_from arena ids 0 0 classes
@@ -72,6 +79,20 @@ comments_of arena ids classes = comments_from arena ids 0 0 classes
 abbrev pub AreCommentsBefore : Contents → List ℕ → List TokenClass → ℕ → List ViewComment → Type 0
 AreCommentsBefore arena ids classes k comments =
     comments ++ comments_from arena ids k (length comments) (drop k classes) ≡ comments_of arena ids classes
+
+-- it is told of each of so many places whether a colon touches the item there
+abbrev pub AreTouched : Contents → List ℕ → List TokenClass → ℕ → List Bool → Type 0
+AreTouched arena ids classes k touched =
+    (i : ℕ) → i < k → is_touched (slice_get touched i)
+    ≡ (is_colon (get_or classes i Nothing) && colon_touches arena (get_or ids i 0))
+
+-- what is noted of a view before a place: its comments, and what a colon touches
+pub record AreNoted (arena : Contents) (ids : List ℕ) (classes : List TokenClass) (k : ℕ) (noted : List ViewComment)
+    (told : List Bool) : Type 0 where
+  pub comments : AreCommentsBefore arena ids classes k noted
+  pub touched : AreTouched arena ids classes k told
+  pub few : length told ≤ k
+  pub fewer : length noted ≤ k
 
 -- the parts of so many places from one on, where these comments follow
 abbrev pub parts_with : ℕ → ℕ → List ViewComment → List Part

@@ -18,7 +18,7 @@ use crate::viewed::{ViewTokens, read_view};
 use bumpalo::Bump;
 use bumpalo::collections::into_bump_slice;
 use line_tokens::{NoMemory, ULine};
-use statement_lines::{Braces, CodeToken, Line, braces_of, case_colons, end_level, tree_lines};
+use statement_lines::{Braces, CodeTokens, Line, braces_of, case_colons, end_level, tree_lines};
 use style_table::Style;
 use token_arena::{TokenArena, View};
 use token_classes::{Partner, TokenClass};
@@ -46,7 +46,7 @@ fn level_behind(
     arena: &TokenArena<'_, '_>,
     view: &View<'_>,
     classes: &[TokenClass],
-    tokens: &[CodeToken],
+    tokens: &CodeTokens<'_>,
     colons: &[u32],
     run: &Bump,
 ) -> Result<u32, NoMemory>
@@ -80,27 +80,27 @@ fn lines_of_read<'r>(
 ) -> Result<Vec<ULine, &'r Bump>, NoMemory>
     requires classes { classes.now ≡ classes_of arena.now view.now }
     requires few { length classes.now ≤ LIMIT }
-    requires few_tokens { length read.now.tokens.items ≤ LIMIT }
-    requires tokens { length read.now.tokens.items ≡ length (code_places_from 0 classes.now) }
-    requires parts { parts_with (length classes.now) 0 read.now.noted.comments.items
+    requires few_tokens { length read.now.tokens ≤ LIMIT }
+    requires tokens { length read.now.tokens ≡ length (code_places_from 0 classes.now) }
+    requires parts { parts_with (length classes.now) 0 read.now.comments.now
         ≡ parts_of arena.now view.now classes.now }
     ensures lines { IfOk result
-        (λ lines. lines.items ≡ lines_with braces.now arena.now view.now classes.now read.now.tokens.items) }
+        (λ lines. lines.items ≡ lines_with braces.now arena.now view.now classes.now read.now.tokens) }
     ensures tree { IfOk result
-        (λ lines. IsCut 0 (length read.now.tokens.items) (lines_of braces.now read.now.tokens.items)) }
+        (λ lines. IsCut 0 (length read.now.tokens) (lines_of braces.now read.now.tokens)) }
 {
-    let tokens: &[CodeToken] = &read.tokens;
-    let colons = case_colons(tokens, &read.noted.cases, run)?;
+    let tokens = &read.tokens;
+    let colons = case_colons(tokens, read.cases, run)?;
     let colons = into_bump_slice(colons);
     let tree = tree_lines(braces, tokens, colons, run)?;
     let tree = into_bump_slice(tree);
     let count = classes.len();
-    let total = tokens.len();
+    let total = tokens.count();
     if total == count {
         return token_lines(tree, run);
     }
     let level = level_behind(braces, arena, view, classes, tokens, colons, run)?;
-    comment_lines(tree, total, level, &read.noted.comments, count, run)
+    comment_lines(tree, total, level, read.comments, count, run)
 }
 
 /// The lines, and that those of the tokens that are no comments cut these.

@@ -3,6 +3,7 @@
 
 mod comments;
 mod cutting;
+mod lanes;
 mod part;
 mod viewed;
 

@@ -1,41 +1,32 @@
 //! A view as a list of tokens and comments.
 
-ghost use Rattle.std.specs.Prelude.{◌≡◌, ◌&&◌, ◌<◌, ◌≤◌, ◌+◌, length, map, get_or, slice_get, vec_capacity, IfOk, Some};
-ghost use Rattle.std.specs.Prelude.{false, if◌then◌else◌};
+ghost use Rattle.std.specs.Prelude.{◌≡◌, ◌&&◌, ◌<◌, ◌≤◌, ◌+◌, ◌-◌, ◌++◌, ℕ, length, drop, get_or, map, slice_get};
+ghost use Rattle.std.specs.Prelude.{take, vec_capacity, IfOk, false, true};
+ghost use Rattle.std.specs.List.{range_with_len};
 ghost use Rattle.item_classes.specs.Viewed.{AreWithin};
 ghost use Rattle.token_classes.specs.Classes.{is_colon, is_comment};
-ghost use Rattle.unwrapped_lines.specs.Viewed.{colon_touches, numbers_of, partner_number, code_tokens, parts_of};
-ghost use Rattle.unwrapped_lines.specs.Inside.{partner_numbers, AreTokensBefore, AreCommentsBefore, segment_stop};
-ghost use Rattle.unwrapped_lines.specs.Inside.{comments_of, parts_with, AreRead};
-ghost use Rattle.token_arena.specs.Gaps.{item_began};
-ghost use Rattle.token_arena.specs.Segments.{ids_of, segment_bounds, no_segment};
+ghost use Rattle.statement_lines.specs.Tokens.{is_touched};
+ghost use Rattle.unwrapped_lines.specs.Viewed.{colon_touches, numbers_of, code_tokens, parts_of};
+ghost use Rattle.unwrapped_lines.specs.Inside.{code_classes, code_partners, comment_place, comment_places_from};
+ghost use Rattle.unwrapped_lines.specs.Inside.{comments_of};
+ghost use Rattle.unwrapped_lines.specs.Inside.{parts_with, AreNoted, AreTouched};
 ghost use Rattle.c_chars.specs.declared.TheConstants.{LIMIT};
 
+use crate::lanes::usual_len;
 use crate::part::ViewComment;
 use bumpalo::Bump;
+use bumpalo::collections::into_bump_slice;
 use item_classes::{comment_part, item_class};
 use line_tokens::{NoMemory, TokenId};
-use statement_lines::CodeToken;
-use token_arena::{Segment, TokenArena, View};
+use statement_lines::{CodeTokens, Places};
+use token_arena::{TokenArena, View};
 use token_classes::{Partner, TokenClass};
-
-/// So many tokens or more stand to a comment in most texts.
-const TOKENS_TO_A_COMMENT: usize = 16;
 
 /// The classes of the items of which more is told than of others, a bit for each.
 const OTHERS: u64 = (1 << TokenClass::Case as u64)
     | (1 << TokenClass::Colon as u64)
     | (1 << TokenClass::LineComment as u64)
     | (1 << TokenClass::BlockComment as u64);
-
-/// Whether the item with a number began its line.
-#[inline(always)]
-fn began(arena: &TokenArena<'_, '_>, id: u32) -> bool
-    requires { id < length arena.now.tokens }
-    ensures { result ≡ item_began arena.now id }
-{
-    arena.get(TokenId(id)).gap.began
-}
 
 /// Whether the item with a number, of this class, is a colon that another colon touches.
 #[inline(never)]
@@ -63,67 +54,6 @@ fn touched(
     Ok(behind.is_colon())
 }
 
-/// How many tokens that are no comments stand before the next place.
-#[inline(always)]
-fn next_number(class: TokenClass, number: u32) -> u32
-    requires { number ≤ LIMIT }
-    ensures same { result ≡ (if is_comment class then number else number + 1) }
-    ensures most { result ≤ number + 1 }
-{
-    if class.is_comment() {
-        number
-    } else {
-        number + 1
-    }
-}
-
-/// How many tokens that are no comments stand before each place; and behind all of these, no number.
-#[inline(never)]
-fn numbers<'r>(classes: &[TokenClass], run: &'r Bump) -> Result<Vec<Partner, &'r Bump>, NoMemory>
-    requires { length classes.now ≤ LIMIT }
-    ensures { IfOk result (λ numbers. numbers.items ≡ partner_numbers classes.now) }
-{
-    let mut numbers = Vec::with_capacity(run, classes.len() + 1)?;
-    let mut number: u32 = 0;
-    for class in classes {
-        numbers.push_reserved(Partner::at(number));
-        number = next_number(*class, number);
-    }
-    numbers.push_reserved(Partner::none());
-    Ok(numbers)
-}
-
-/// The number of a partner, counted over the tokens that are no comments, by those of all places.
-#[inline(always)]
-fn number_at(classes: &[TokenClass], numbers: &[Partner], partner: Partner) -> Partner
-    requires few { length classes.now ≤ LIMIT }
-    requires numbers { numbers.now ≡ partner_numbers classes.now }
-    ensures { result ≡ partner_number (numbers_of classes.now) (Some partner) }
-{
-    let last = numbers.len() - 1;
-    // Where there is no partner, the last entry tells that too.
-    let place = partner.place().unwrap_or(u32::MAX) as usize;
-    numbers[place.min(last)]
-}
-
-/// The number of the partner at a place, if it has one.
-#[inline(always)]
-fn partner_at(
-    classes: &[TokenClass],
-    numbers: &[Partner],
-    partners: &[Partner],
-    place: usize,
-) -> Partner
-    requires few { length classes.now ≤ LIMIT }
-    requires numbers { numbers.now ≡ partner_numbers classes.now }
-    ensures { result ≡ partner_number (numbers_of classes.now) (slice_get partners.now place) }
-{
-    match partners.get(place) {
-        Some(partner) => number_at(classes, numbers, *partner),
-        None => Partner::none(),
-    }
-}
-
 /// Whether an item of this class is a comment, a colon or a `case`: of these more is told than of other items.
 #[inline(always)]
 fn is_other(class: TokenClass) -> bool
@@ -133,11 +63,28 @@ fn is_other(class: TokenClass) -> bool
     (OTHERS >> class as u64) % 2 == 1
 }
 
-/// The comments of a view, and which of its tokens are a `case`.
+/// What is noted of a view: its comments, which of its tokens are a `case`, and which of its items a colon touches.
 #[derive(Drop)]
-pub(crate) struct Noted<'r> {
-    pub(crate) comments: Vec<ViewComment, &'r Bump>,
-    pub(crate) cases: Vec<usize, &'r Bump>,
+struct Noted<'r> {
+    comments: Vec<ViewComment, &'r Bump>,
+    cases: Vec<usize, &'r Bump>,
+    touched: Vec<bool, &'r Bump>,
+}
+
+/// Notes that a colon touches the item at a place, behind those of which it is told.
+#[inline(never)]
+fn note_touched(touched: &mut Vec<bool, &Bump>, place: usize) -> Result<(), NoMemory>
+    requires { length touched.old.items ≤ place }
+    ensures before { IfOk result (λ u.
+        (i : ℕ) → i < place → is_touched (slice_get touched.new.items i) ≡ is_touched (slice_get touched.old.items i)) }
+    ensures here { IfOk result (λ u. is_touched (slice_get touched.new.items place) ≡ true) }
+    ensures few { IfOk result (λ u. length touched.new.items ≡ place + 1) }
+{
+    for _ in touched.len()..place {
+        touched.push(false)?;
+    }
+    touched.push(true)?;
+    Ok(())
 }
 
 /// Notes a token of this class, before which so many stand, where it is a `case`.
@@ -153,167 +100,265 @@ fn note_case(
     Ok(())
 }
 
-/// Appends the token at a place of a segment, or notes the comment there.
+/// Notes the item at a place, where it is a comment, a `case`, or a colon that another touches.
 #[inline(never)]
-fn push_other<'r>(
+fn note_item(
     arena: &TokenArena<'_, '_>,
-    segments: &[Segment],
-    number: usize,
-    place: usize,
+    view: &View<'_>,
     classes: &[TokenClass],
-    numbers: &[Partner],
-    partners: &[Partner],
-    tokens: Vec<CodeToken, &'r Bump>,
+    place: usize,
+    id: u32,
     noted: &mut Noted<'_>,
     run: &Bump,
-) -> Result<Vec<CodeToken, &'r Bump>, NoMemory>
-    requires read { AreRead arena.now segments.now classes.now numbers.now }
-    requires number { number < length segments.now }
-    requires room { length classes.now ≤ vec_capacity tokens }
-    requires from { (get_or segments.now number no_segment).before ≤ place }
-    requires end { place < segment_stop (get_or segments.now number no_segment) }
-    requires before { AreTokensBefore arena.now (ids_of (map segment_bounds segments.now)) classes.now partners.now
-        place tokens.items }
-    requires comments { AreCommentsBefore arena.now (ids_of (map segment_bounds segments.now)) classes.now place
-        noted.old.comments.items }
-    ensures tokens { IfOk result (λ made.
-        AreTokensBefore arena.now (ids_of (map segment_bounds segments.now)) classes.now partners.now (place + 1)
-        made.items) }
-    ensures comments { IfOk result (λ made.
-        AreCommentsBefore arena.now (ids_of (map segment_bounds segments.now)) classes.now (place + 1)
-        noted.new.comments.items) }
-    ensures room { IfOk result (λ made. vec_capacity made ≡ vec_capacity tokens.entry) }
+) -> Result<(), NoMemory>
+    requires places { place < length classes.now }
+    requires few { length classes.now ≤ LIMIT }
+    requires item { get_or view.now place 0 ≡ id }
+    requires within { id < length arena.now.tokens }
+    requires before { AreNoted arena.now view.now classes.now place noted.old.comments.items noted.old.touched.items }
+    ensures { IfOk result (λ u.
+        AreNoted arena.now view.now classes.now (place + 1) noted.new.comments.items noted.new.touched.items) }
 {
     let class = classes[place];
-    let segment = segments[number];
-    let id = segment.first + (place as u32 - segment.before);
     if class.is_comment() {
         let started = noted.comments.len() < place;
         noted.comments.push(ViewComment {
             place: place as u32,
             part: comment_part(arena, id, started, class),
         })?;
-        return Ok(tokens);
+        return Ok(());
     }
-    note_case(class, tokens.len(), &mut noted.cases)?;
-    let touched = touched(arena, id, class, run)?;
-    let partner = partner_at(classes, numbers, partners, place);
-    let mut tokens = tokens;
-    tokens.push_reserved(CodeToken {
-        class,
-        began: began(arena, id),
-        touched,
-        partner,
-    });
-    Ok(tokens)
+    note_case(class, place - noted.comments.len(), &mut noted.cases)?;
+    if touched(arena, id, class, run)? {
+        note_touched(&mut noted.touched, place)?;
+    }
+    Ok(())
 }
 
-/// Appends the tokens of the segment with a number that are no comments, with their partners, and notes the others.
-#[inline(never)]
-fn push_segment<'r>(
-    arena: &TokenArena<'_, '_>,
-    segments: &[Segment],
-    number: usize,
-    classes: &[TokenClass],
-    numbers: &[Partner],
-    partners: &[Partner],
-    tokens: Vec<CodeToken, &'r Bump>,
-    noted: &mut Noted<'_>,
-    run: &Bump,
-) -> Result<Vec<CodeToken, &'r Bump>, NoMemory>
-    requires read { AreRead arena.now segments.now classes.now numbers.now }
-    requires number { number < length segments.now }
-    requires room { length classes.now ≤ vec_capacity tokens }
-    requires before { AreTokensBefore arena.now (ids_of (map segment_bounds segments.now)) classes.now partners.now
-        (get_or segments.now number no_segment).before tokens.items }
-    requires comments { AreCommentsBefore arena.now (ids_of (map segment_bounds segments.now)) classes.now
-        (get_or segments.now number no_segment).before noted.old.comments.items }
-    ensures tokens { IfOk result (λ made.
-        AreTokensBefore arena.now (ids_of (map segment_bounds segments.now)) classes.now partners.now
-        (segment_stop (get_or segments.now number no_segment)) made.items) }
-    ensures comments { IfOk result (λ made.
-        AreCommentsBefore arena.now (ids_of (map segment_bounds segments.now)) classes.now
-        (segment_stop (get_or segments.now number no_segment)) noted.new.comments.items) }
-    ensures room { IfOk result (λ made. vec_capacity made ≡ vec_capacity tokens.entry) }
-{
-    let segment = segments[number];
-    let first = segment.first;
-    let from = segment.before as usize;
-    let end = from + (segment.end - first) as usize;
-    let near = end.min(partners.len());
-    let mut tokens = tokens;
-    let mut place = from;
-    // The first item of a text began its line, whatever stands before it: of others the new-lines there tell.
-    if first == 0 {
-        tokens = push_other(
-            arena, segments, number, place, classes, numbers, partners, tokens, noted, run,
-        )?;
-        place += 1;
-    }
-    for id in first.max(1)..first + near.saturating_sub(from) as u32 {
-        let class = classes[place];
-        if is_other(class) {
-            tokens = push_other(
-                arena, segments, number, place, classes, numbers, partners, tokens, noted, run,
-            )?;
-            place += 1;
-            continue;
-        }
-        tokens.push_reserved(CodeToken {
-            class,
-            began: began(arena, id),
-            touched: false,
-            partner: number_at(classes, numbers, partners[place]),
-        });
-        place += 1;
-    }
-    // Behind the last of the partners, where they are fewer.
-    for far in place..end {
-        tokens = push_other(
-            arena, segments, number, far, classes, numbers, partners, tokens, noted, run,
-        )?;
-    }
-    Ok(tokens)
-}
-
-/// A view's tokens that are no comments, with their partners, and what is noted of it.
-#[derive(Drop)]
-pub(crate) struct ViewTokens<'r> {
-    pub(crate) tokens: Vec<CodeToken, &'r Bump>,
-    pub(crate) noted: Noted<'r>,
-}
-
-/// The tokens and the comments of a view.
-pub(crate) fn read_view<'r>(
+/// The same, where the item's number isn't known yet. It is looked for in the segment with this number first.
+#[inline(always)]
+fn note_place(
     arena: &TokenArena<'_, '_>,
     view: &View<'_>,
     classes: &[TokenClass],
-    partners: &[Partner],
+    place: usize,
+    segment: &mut usize,
+    noted: &mut Noted<'_>,
+    run: &Bump,
+) -> Result<(), NoMemory>
+    requires within { AreWithin arena.now view.now }
+    requires same { length classes.now ≡ length view.now }
+    requires places { place < length classes.now }
+    requires few { length classes.now ≤ LIMIT }
+    requires before { AreNoted arena.now view.now classes.now place noted.old.comments.items noted.old.touched.items }
+    ensures { IfOk result (λ u.
+        AreNoted arena.now view.now classes.now (place + 1) noted.new.comments.items noted.new.touched.items) }
+{
+    if !is_other(classes[place]) {
+        return Ok(());
+    }
+    let id = view.at_near(place as u32, segment).0;
+    note_item(arena, view, classes, place, id, noted, run)
+}
+
+/// What is noted of the items of a view.
+#[inline(never)]
+fn note_items<'r>(
+    arena: &TokenArena<'_, '_>,
+    view: &View<'_>,
+    classes: &[TokenClass],
     run: &'r Bump,
-) -> Result<ViewTokens<'r>, NoMemory>
+) -> Result<Noted<'r>, NoMemory>
     requires within { AreWithin arena.now view.now }
     requires places { length classes.now ≡ length view.now }
     requires few { length classes.now ≤ LIMIT }
-    requires items { length arena.now.tokens ≤ LIMIT }
-    ensures tokens { IfOk result (λ read. read.tokens.items ≡ code_tokens arena.now view.now classes.now partners.now) }
-    ensures few { IfOk result (λ read. length read.tokens.items ≤ LIMIT) }
-    ensures comments { IfOk result (λ read. read.noted.comments.items ≡ comments_of arena.now view.now classes.now) }
-    ensures parts { IfOk result
-        (λ read. parts_with (length view.now) 0 read.noted.comments.items ≡ parts_of arena.now view.now classes.now) }
+    ensures comments { IfOk result (λ noted. noted.comments.items ≡ comments_of arena.now view.now classes.now) }
+    ensures touched { IfOk result
+        (λ noted. AreTouched arena.now view.now classes.now (length classes.now) noted.touched.items) }
 {
-    let mut tokens = Vec::with_capacity(run, classes.len())?;
-    let comments = Vec::with_capacity(run, classes.len() / TOKENS_TO_A_COMMENT)?;
     let mut noted = Noted {
-        comments,
+        comments: Vec::new(run),
         cases: Vec::new(run),
+        touched: Vec::new(run),
     };
-    // What the numbers take behind these is given back when they are dropped.
-    let numbers = numbers(classes, run)?;
-    let segments = view.segments();
-    for number in 0..segments.len() {
-        tokens = push_segment(
-            arena, segments, number, classes, &numbers, partners, tokens, &mut noted, run,
-        )?;
+    let mut segment = 0;
+    let mut place = 0;
+    while place < classes.len() {
+        place += usual_len(&classes[place..]);
+        if place < classes.len() {
+            note_place(arena, view, classes, place, &mut segment, &mut noted, run)?;
+            place += 1;
+        }
     }
-    Ok(ViewTokens { tokens, noted })
+    Ok(noted)
+}
+
+/// The places of comments.
+fn places_of<'r>(comments: &[ViewComment], run: &'r Bump) -> Result<Vec<u32, &'r Bump>, NoMemory>
+    ensures { IfOk result (λ places. places.items ≡ map comment_place comments.now) }
+{
+    let mut places = Vec::with_capacity(run, comments.len())?;
+    for comment in comments {
+        places.push_reserved(comment.place);
+    }
+    Ok(places)
+}
+
+/// Tokens that are no comments, put one behind another, and how many of them stand before each place.
+#[derive(Drop)]
+struct Joined<'r> {
+    classes: Vec<TokenClass, &'r Bump>,
+    partners: Vec<Partner, &'r Bump>,
+    numbers: Vec<u32, &'r Bump>,
+}
+
+/// Appends so many numbers, from one on.
+#[inline(always)]
+fn push_numbers<'r>(numbers: Vec<u32, &'r Bump>, first: u32, count: u32) -> Vec<u32, &'r Bump>
+    requires small { first + count ≤ LIMIT }
+    requires room { length numbers.items + count ≤ vec_capacity numbers }
+    ensures items { result.items ≡ numbers.entry.items ++ range_with_len first count }
+    ensures room { vec_capacity result ≡ vec_capacity numbers.entry }
+{
+    let mut numbers = numbers;
+    for number in first..first + count {
+        numbers.push_reserved(number);
+    }
+    numbers
+}
+
+/// Some of these partners, as many as there are.
+#[inline(always)]
+fn partners_among(partners: &[Partner], from: usize, end: usize) -> &[Partner]
+    requires { from ≤ end }
+    ensures { result.now ≡ take (end - from) (drop from partners.now) }
+{
+    let count = partners.len();
+    &partners[from.min(count)..end.min(count)]
+}
+
+/// Appends the tokens from a place to before another, between which no comment stands.
+#[inline(always)]
+fn push_stretch<'r>(
+    classes: &[TokenClass],
+    partners: &[Partner],
+    from: usize,
+    end: usize,
+    joined: Joined<'r>,
+) -> Result<Joined<'r>, NoMemory>
+    requires order { from ≤ end }
+    requires within { end ≤ length classes.now }
+    requires few { length classes.now ≤ LIMIT }
+    requires fewer { length joined.classes.items ≤ from }
+    requires numbers { length joined.numbers.items ≡ from }
+    requires room { length classes.now ≤ vec_capacity joined.numbers }
+    ensures classes { IfOk result
+        (λ more. more.classes.items ≡ joined.entry.classes.items ++ take (end - from) (drop from classes.now)) }
+    ensures partners { IfOk result
+        (λ more. more.partners.items ≡ joined.entry.partners.items ++ take (end - from) (drop from partners.now)) }
+    ensures numbers { IfOk result (λ more.
+        more.numbers.items
+        ≡ joined.entry.numbers.items ++ range_with_len (length joined.entry.classes.items) (end - from)) }
+    ensures room { IfOk result (λ more. vec_capacity more.numbers ≡ vec_capacity joined.entry.numbers) }
+{
+    let Joined {
+        classes: mut kept,
+        partners: mut kept_partners,
+        numbers,
+    } = joined;
+    let first = kept.len() as u32;
+    kept.extend_from_slice(&classes[from..end])?;
+    kept_partners.extend_from_slice(partners_among(partners, from, end))?;
+    Ok(Joined {
+        classes: kept,
+        partners: kept_partners,
+        numbers: push_numbers(numbers, first, (end - from) as u32),
+    })
+}
+
+/// The tokens of a view that are no comments, where comments stand at these places.
+#[inline(never)]
+fn join_tokens<'r>(
+    classes: &[TokenClass],
+    partners: &[Partner],
+    comments: &[u32],
+    run: &'r Bump,
+) -> Result<Joined<'r>, NoMemory>
+    requires few { length classes.now ≤ LIMIT }
+    requires comments { comments.now ≡ comment_places_from 0 classes.now }
+    ensures classes { IfOk result (λ joined. joined.classes.items ≡ code_classes classes.now) }
+    ensures partners { IfOk result (λ joined. joined.partners.items ≡ code_partners classes.now partners.now) }
+    ensures numbers { IfOk result (λ joined. joined.numbers.items ≡ numbers_of classes.now) }
+{
+    let mut joined = Joined {
+        classes: Vec::with_capacity(run, classes.len())?,
+        partners: Vec::with_capacity(run, classes.len())?,
+        numbers: Vec::with_capacity(run, classes.len())?,
+    };
+    let mut from = 0;
+    for comment in comments {
+        let place = *comment as usize;
+        let mut stretched = push_stretch(classes, partners, from, place, joined)?;
+        let number = stretched.classes.len() as u32;
+        stretched.numbers.push_reserved(number);
+        joined = stretched;
+        from = place + 1;
+    }
+    push_stretch(classes, partners, from, classes.len(), joined)
+}
+
+/// A view's tokens that are no comments, its comments, and which of the tokens are a `case`.
+#[derive(Drop)]
+pub(crate) struct ViewTokens<'v> {
+    pub(crate) tokens: CodeTokens<'v>,
+    pub(crate) comments: &'v [ViewComment],
+    pub(crate) cases: &'v [usize],
+}
+
+/// The tokens and the comments of a view.
+pub(crate) fn read_view<'v>(
+    arena: &'v TokenArena<'v, 'v>,
+    view: &'v View<'v>,
+    classes: &'v [TokenClass],
+    partners: &'v [Partner],
+    run: &'v Bump,
+) -> Result<ViewTokens<'v>, NoMemory>
+    requires within { AreWithin arena.now view.now }
+    requires places { length classes.now ≡ length view.now }
+    requires few { length classes.now ≤ LIMIT }
+    ensures tokens { IfOk result (λ read. read.tokens ≡ code_tokens arena.now view.now classes.now partners.now) }
+    ensures few { IfOk result (λ read. length read.tokens ≤ LIMIT) }
+    ensures parts { IfOk result
+        (λ read. parts_with (length view.now) 0 read.comments.now ≡ parts_of arena.now view.now classes.now) }
+{
+    let noted = note_items(arena, view, classes, run)?;
+    let comments = into_bump_slice(noted.comments);
+    let cases = into_bump_slice(noted.cases);
+    let touched = into_bump_slice(noted.touched);
+    let marked = places_of(comments, run)?;
+    let marked = into_bump_slice(marked);
+    let places = Places {
+        arena,
+        view,
+        comments: marked,
+        touched,
+    };
+    if marked.is_empty() {
+        let tokens = CodeTokens::of(classes, partners, &[], places);
+        return Ok(ViewTokens {
+            tokens,
+            comments,
+            cases,
+        });
+    }
+    let joined = join_tokens(classes, partners, marked, run)?;
+    let kept = into_bump_slice(joined.classes);
+    let kept_partners = into_bump_slice(joined.partners);
+    let numbers = into_bump_slice(joined.numbers);
+    let tokens = CodeTokens::of(kept, kept_partners, numbers, places);
+    Ok(ViewTokens {
+        tokens,
+        comments,
+        cases,
+    })
 }

@@ -1,13 +1,11 @@
-use Rattle.std.proofs.Common.{◌≡◌, ◌∙◌, List, ap, arith, length, map, subst, sym}
+use Rattle.std.proofs.Common.{◌≡◌, ◌∙◌, List, arith, length, map, subst, sym}
 use Rattle.std.proofs.lemmas.Result.{IfOk-weaker}
 use Rattle.statement_lines.specs.declared.line.Line.{Line}
-use Rattle.unwrapped_lines.specs.declared.part.ViewComment.{ViewComment}
-use Rattle.statement_lines.specs.declared.token.CodeToken.{CodeToken}
 use Rattle.unwrapped_lines.specs.Comments.{begins_from, no_marks}
 use Rattle.unwrapped_lines.specs.Inside.{lines_with, parts_with}
 use Rattle.unwrapped_lines.specs.Lines.{lines_between, view_line}
 use Rattle.statement_lines.specs.Stack.{IsCut}
-use Rattle.statement_lines.specs.Tree.{end_level, lines_of}
+use Rattle.statement_lines.specs.Tree.{lines_of}
 use Rattle.unwrapped_lines.specs.Viewed.{parts_of}
 use Rattle.unwrapped_lines.proofs.PlainLemmas.{lines_behind, plain_lines}
 use Rattle.unwrapped_lines.proofs.cutting.lines_of_read.Goals as goal
@@ -20,25 +18,23 @@ returns-then-total-count-clause-lines c =
     let arena = c.args.arena.now in
     let view = c.args.view.now in
     let classes = c.args.classes.now in
-    let tokens = c.args.read.now.tokens.items in
+    let tokens = c.args.read.now.tokens in
     let lines = c.into_bump_slice-tree.result.now in
-    let by_line : lines ≡ lines_of braces tokens = c.into_bump_slice-tree.ensures ∙ (c.in_ok-tree.ensures.same ∙ ap (lines_of braces) c.deref-tokens.ensures.value) in
-    let P : List CodeToken → Type 0 = λ x. IsCut 0 (length x) c.in_ok-tree.tree.items in
+    let by_line : lines ≡ lines_of braces tokens = c.into_bump_slice-tree.ensures ∙ c.in_ok-tree.ensures.same in
     let Q : List Line → Type 0 = λ x. IsCut 0 (length tokens) x in
-    let cut : IsCut 0 (length tokens) lines = subst Q (sym c.into_bump_slice-tree.ensures) (subst P c.deref-tokens.ensures.value c.in_ok-tree.ensures.cut) in
-    let all : length tokens ≡ length classes = omega (arith, ap length c.deref-tokens.ensures.value, c.if-total-count.true) in
+    let cut : IsCut 0 (length tokens) lines = subst Q (sym c.into_bump_slice-tree.ensures) c.in_ok-tree.ensures.cut in
+    let all : length tokens ≡ length classes = omega (arith, c.count-total.ensures, c.if-total-count.true) in
     let same : map view_line lines ≡ lines_with braces arena view classes tokens = plain_lines braces arena view classes tokens lines c.requires.tokens by_line cut all in
     IfOk-weaker c.token_lines.result (λ r. r.items ≡ map view_line lines) (λ r. r.items ≡ lines_with braces arena view classes tokens) (λ r e. e ∙ same) c.token_lines.ensures
 
 pub returns-then-total-count-clause-tree : goal.returns-then-total-count-clause-tree
 returns-then-total-count-clause-tree c =
     let braces = c.args.braces.now in
-    let tokens = c.args.read.now.tokens.items in
+    let tokens = c.args.read.now.tokens in
     let tree = c.in_ok-tree.tree.items in
-    let by_line : tree ≡ lines_of braces tokens = c.in_ok-tree.ensures.same ∙ ap (lines_of braces) c.deref-tokens.ensures.value in
-    let P : List CodeToken → Type 0 = λ x. IsCut 0 (length x) tree in
+    let by_line : tree ≡ lines_of braces tokens = c.in_ok-tree.ensures.same in
     let Q : List Line → Type 0 = λ x. IsCut 0 (length tokens) x in
-    let cut : IsCut 0 (length tokens) (lines_of braces tokens) = subst Q by_line (subst P c.deref-tokens.ensures.value c.in_ok-tree.ensures.cut) in
+    let cut : IsCut 0 (length tokens) (lines_of braces tokens) = subst Q by_line c.in_ok-tree.ensures.cut in
     IfOk-weaker c.token_lines.result (λ r. r.items ≡ map view_line c.into_bump_slice-tree.result.now) (λ r. IsCut 0 (length tokens) (lines_of braces tokens)) (λ r e. cut) c.token_lines.ensures
 
 -- ## With comments
@@ -49,18 +45,16 @@ returns-clause-lines c =
     let arena = c.args.arena.now in
     let view = c.args.view.now in
     let classes = c.args.classes.now in
-    let tokens = c.args.read.now.tokens.items in
+    let tokens = c.args.read.now.tokens in
     let parts = parts_of arena view classes in
     let lines = c.into_bump_slice-tree.result.now in
-    let comments = c.deref-2.result.now in
-    let count = length c.deref-tokens.result.now in
+    let comments = c.args.read.now.comments.now in
+    let count = c.count-total.result in
     let level = c.in_ok-level.level in
-    let by_line : lines ≡ lines_of braces tokens = c.into_bump_slice-tree.ensures ∙ (c.in_ok-tree.ensures.same ∙ ap (lines_of braces) c.deref-tokens.ensures.value) in
-    let by_count : count ≡ length tokens = ap length c.deref-tokens.ensures.value in
-    let by_part : parts_with (length classes) 0 comments ≡ parts = ap (λ (x : List ViewComment). parts_with (length classes) 0 x) c.deref-2.ensures.value ∙ c.requires.parts in
-    let P : List CodeToken → Type 0 = λ x. (ls : List Line) → begins_from (record { lines = ls; total = length x; end_level = level }) parts 0 no_marks
-    ≡ begins_from (record { lines = ls; total = length x; end_level = end_level braces x }) parts 0 no_marks in
-    let by_level = subst P c.deref-tokens.ensures.value c.in_ok-level.ensures in
+    let by_line : lines ≡ lines_of braces tokens = c.into_bump_slice-tree.ensures ∙ c.in_ok-tree.ensures.same in
+    let by_count : count ≡ length tokens = c.count-total.ensures in
+    let by_part : parts_with (length classes) 0 comments ≡ parts = c.requires.parts in
+    let by_level = c.in_ok-level.ensures in
     IfOk-weaker c.comment_lines.result
     (λ r. r.items ≡ lines_between (length classes) (begins_from (record { lines = lines; total = count; end_level = level }) (parts_with (length classes) 0 comments) 0 no_marks))
     (λ r. r.items ≡ lines_with braces arena view classes tokens)
@@ -70,13 +64,12 @@ pub returns-clause-tree : goal.returns-clause-tree
 returns-clause-tree c =
     let braces = c.args.braces.now in
     let classes = c.args.classes.now in
-    let tokens = c.args.read.now.tokens.items in
+    let tokens = c.args.read.now.tokens in
     let tree = c.in_ok-tree.tree.items in
-    let by_line : tree ≡ lines_of braces tokens = c.in_ok-tree.ensures.same ∙ ap (lines_of braces) c.deref-tokens.ensures.value in
-    let P : List CodeToken → Type 0 = λ x. IsCut 0 (length x) tree in
+    let by_line : tree ≡ lines_of braces tokens = c.in_ok-tree.ensures.same in
     let Q : List Line → Type 0 = λ x. IsCut 0 (length tokens) x in
-    let cut : IsCut 0 (length tokens) (lines_of braces tokens) = subst Q by_line (subst P c.deref-tokens.ensures.value c.in_ok-tree.ensures.cut) in
+    let cut : IsCut 0 (length tokens) (lines_of braces tokens) = subst Q by_line c.in_ok-tree.ensures.cut in
     IfOk-weaker c.comment_lines.result
-    (λ r. r.items ≡ lines_between (length classes) (begins_from (record { lines = c.into_bump_slice-tree.result.now; total = length c.deref-tokens.result.now; end_level = c.in_ok-level.level })
-    (parts_with (length classes) 0 c.deref-2.result.now) 0 no_marks))
+    (λ r. r.items ≡ lines_between (length classes) (begins_from (record { lines = c.into_bump_slice-tree.result.now; total = c.count-total.result; end_level = c.in_ok-level.level })
+    (parts_with (length classes) 0 c.args.read.now.comments.now) 0 no_marks))
     (λ r. IsCut 0 (length tokens) (lines_of braces tokens)) (λ r e. cut) c.comment_lines.ensures
