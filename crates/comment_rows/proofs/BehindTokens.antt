@@ -1,6 +1,7 @@
 -- Columns behind the tokens of a view, and the comments behind them.
-use Rattle.std.proofs.Common.{◌≡◌, ◌∙◌, ℕ, zero, suc, ◌+◌, ◌-◌, ◌<◌, ◌≤◌, Bool, false, Option, Some, List, [], ◌∷◌, ◌++◌, length, drop, get_or, refl, sym, ap, subst, arith, append-nil}
-use Rattle.std.specs.Prelude.{if◌then◌else◌, slice_get}
+use Rattle.std.proofs.Common.{◌≡◌, ◌∙◌, ℕ, zero, suc, ◌+◌, ◌-◌, ◌<◌, ◌≤◌, Bool, true, false, Option, Some, List, [], ◌∷◌, ◌++◌, length, drop, get_or, refl, sym, ap, subst, arith}
+use Rattle.std.specs.Prelude.{if◌then◌else◌, slice_get, slice_range}
+use Rattle.std.proofs.lemmas.List.{get_or-drop, get_or-take}
 use Rattle.std.proofs.lemmas.Option.{get_or_from_slice_get, slice_get-get_or}
 use Rattle.style_table.specs.declared.style.Style.{Style}
 use Rattle.line_tokens.specs.Roles.{is_trailing}
@@ -15,9 +16,9 @@ use Rattle.comment_rows.proofs.CommentLists.{comments_more, drop_here}
 
 module _ (style : Style) (plan : List (Option Slot)) (tokens : List LineTok) where
   -- a decided gap tells it
-  pub by_decided : (token : LineTok) (slot : Slot) (place behind : ℕ) → slice_get tokens place ≡ Some token → slot_of plan token.id.0 ≡ Some slot → behind ≡ end_of token slot.end → behind ≡ column_behind style plan tokens place
+  pub by_decided : (token : LineTok) (slot : Slot) (place behind : ℕ) → token ≡ get_or tokens place no_token → slot_of plan token.id.0 ≡ Some slot → behind ≡ end_of token slot.end → behind ≡ column_behind style plan tokens place
   by_decided token slot place behind at decided ends =
-      let same : get_or tokens place no_token ≡ token = get_or_from_slice_get tokens place token no_token at in
+      let same : get_or tokens place no_token ≡ token = sym at in
       ends ∙ (sym (ap (λ (t : LineTok). end_of t slot.end) same) ∙ at_place place (ap (λ (t : LineTok). slot_of plan t.id.0) same ∙ decided))
     where
       at_place : (place : ℕ) → slot_of plan (get_or tokens place no_token).id.0 ≡ Some slot → end_of (get_or tokens place no_token) slot.end ≡ column_behind style plan tokens place
@@ -26,15 +27,6 @@ module _ (style : Style) (plan : List (Option Slot)) (tokens : List LineTok) whe
           sym (ap (λ (o : Option Slot). end_of (get_or tokens (suc n) no_token) (start_by style (get_or tokens n no_token) (column_behind style plan tokens n) (get_or tokens (suc n) no_token) o)) e)
 
   -- ## The comments
-
-  -- a token that is none keeps them
-  pub none_kept : (token left : LineTok) (at column : ℕ) (items : List Comment) (later : List LineTok) → slice_get tokens at ≡ Some token → is_trailing token.role ≡ false
-      → items ≡ items ++ comment_at style plan left column (get_or tokens at no_token) later
-  none_kept token left at column items later here other =
-      let same : get_or tokens at no_token ≡ token = get_or_from_slice_get tokens at token no_token here in
-      let nothing : items ++ [] ≡ items = rw append-nil refl in
-      sym (ap (λ (t : LineTok). items ++ comment_at style plan left column t later) same
-      ∙ (ap (λ (b : Bool). items ++ (if b then comment_of style plan left column token later ∷ [] else [])) other ∙ nothing))
 
   after : (n : ℕ) (before now : List Comment) → suc n < length tokens
       → now ≡ before ++ comment_at style plan (get_or tokens n no_token) (column_behind style plan tokens n) (get_or tokens (suc n) no_token) (drop (suc n + 1) tokens)
@@ -62,32 +54,67 @@ module _ (style : Style) (plan : List (Option Slot)) (tokens : List LineTok) whe
       ≡ before ++ comments_behind style plan (get_or tokens k no_token) (column_behind style plan tokens k) (drop (suc n) tokens)) back
       (after n before now below) made)
 
-  -- tokens that are none keep them
-  pub others_skipped : (from n : ℕ) → 1 ≤ from → from + n ≤ length tokens → ((i : ℕ) (d : LineTok) → from ≤ i → i < from + n → is_trailing (get_or tokens i d).role ≡ false)
-      → comments_behind style plan (get_or tokens (from - 1) no_token) (column_behind style plan tokens (from - 1)) (drop from tokens)
-      ≡ comments_behind style plan (get_or tokens (from + n - 1) no_token) (column_behind style plan tokens (from + n - 1)) (drop (from + n) tokens)
-  others_skipped from zero some within others =
-      let here : from + 0 ≡ from = omega arith in
-      rw here refl
-  others_skipped from (suc n) some within others =
-      let at : ℕ = from + n in
-      let next : from + suc n ≡ at + 1 = omega arith in
-      let below : at < length tokens = omega (arith, within) in
-      let token = get_or tokens at no_token in
-      let before = others_skipped from n some (omega (arith, within)) (λ i d low high. others i d low (omega (arith, high))) in
-      let none : [] ≡ [] ++ comment_at style plan (get_or tokens (at - 1) no_token) (column_behind style plan tokens (at - 1)) (get_or tokens at no_token) (drop (at + 1) tokens) =
-      none_kept token (get_or tokens (at - 1) no_token) at (column_behind style plan tokens (at - 1)) [] (drop (at + 1) tokens) (slice_get-get_or tokens at no_token below) (others at no_token (omega arith) (omega arith)) in
-      rw next (before ∙ sym (one_more at [] [] (omega (arith, some)) below none))
+  -- those behind the token before a place
+  abbrev pub comments_from : ℕ → List Comment
+  comments_from at = comments_behind style plan (get_or tokens (at - 1) no_token) (column_behind style plan tokens (at - 1)) (drop at tokens)
 
-  -- the same up to a later place
-  pub others_passed : (from end : ℕ) → 1 ≤ from → from ≤ end → end ≤ length tokens → ((i : ℕ) (d : LineTok) → from ≤ i → i < end → is_trailing (get_or tokens i d).role ≡ false)
-      → comments_behind style plan (get_or tokens (from - 1) no_token) (column_behind style plan tokens (from - 1)) (drop from tokens)
-      ≡ comments_behind style plan (get_or tokens (end - 1) no_token) (column_behind style plan tokens (end - 1)) (drop end tokens)
-  others_passed from end some order within others =
-      let e : from + (end - from) ≡ end = omega (arith, order) in
-      subst (λ m. comments_behind style plan (get_or tokens (from - 1) no_token) (column_behind style plan tokens (from - 1)) (drop from tokens)
-      ≡ comments_behind style plan (get_or tokens (m - 1) no_token) (column_behind style plan tokens (m - 1)) (drop m tokens)) e
-      (others_skipped from (end - from) some (omega (arith, order, within)) (λ i d low high. others i d low (omega (arith, order, high))))
+  -- one comment more
+  pub found_more : (at : ℕ) (before now : List Comment) (comment : Comment) → 1 ≤ at → at < length tokens → is_trailing (get_or tokens at no_token).role ≡ true
+      → comment ≡ comment_of style plan (get_or tokens (at - 1) no_token) (column_behind style plan tokens (at - 1)) (get_or tokens at no_token) (drop (at + 1) tokens)
+      → now ≡ before ++ comment ∷ [] → now ++ comments_from (at + 1) ≡ before ++ comments_from at
+  found_more at before now comment some below trailing is made =
+      let left = get_or tokens (at - 1) no_token in
+      let column = column_behind style plan tokens (at - 1) in
+      let token = get_or tokens at no_token in
+      let later = drop (at + 1) tokens in
+      one_more at before now some below
+      (made ∙ (ap (λ (c : Comment). before ++ c ∷ []) is ∙ sym (ap (λ (b : Bool). before ++ (if b then comment_of style plan left column token later ∷ [] else [])) trailing)))
+
+  -- none at a token that is no trailing comment
+  none_at : (at : ℕ) → 1 ≤ at → at < length tokens → is_trailing (get_or tokens at no_token).role ≡ false → comments_from (at + 1) ≡ comments_from at
+  none_at at some below other =
+      let left = get_or tokens (at - 1) no_token in
+      let column = column_behind style plan tokens (at - 1) in
+      let token = get_or tokens at no_token in
+      let later = drop (at + 1) tokens in
+      one_more at [] [] some below (sym (ap (λ (b : Bool). if b then comment_of style plan left column token later ∷ [] else []) other))
+
+  none_by : (count from : ℕ) → 1 ≤ from → from + count ≤ length tokens → ((i : ℕ) (d : LineTok) → from ≤ i → i < from + count → is_trailing (get_or tokens i d).role ≡ false)
+      → comments_from (from + count) ≡ comments_from from
+  none_by zero from some within others =
+      let same : from ≡ from + 0 = omega arith in
+      subst (λ k. comments_from k ≡ comments_from from) same refl
+  none_by (suc count) from some within others =
+      let same : from + 1 + count ≡ from + suc count = omega arith in
+      subst (λ k. comments_from k ≡ comments_from from) same
+      (none_by count (from + 1) (omega arith) (omega (arith, within)) (λ i d low high. others i d (omega (arith, low)) (omega (arith, high)))
+      ∙ none_at from some (omega (arith, within)) (others from no_token (omega arith) (omega arith)))
+
+  -- none of a stretch of tokens that are no trailing comments
+  pub none_between : (from at : ℕ) → 1 ≤ from → from ≤ at → at ≤ length tokens → ((i : ℕ) (d : LineTok) → from ≤ i → i < at → is_trailing (get_or tokens i d).role ≡ false) → comments_from at ≡ comments_from from
+  none_between from at some order within others =
+      let same : from + (at - from) ≡ at = omega (arith, order) in
+      subst (λ k. comments_from k ≡ comments_from from) same
+      (none_by (at - from) from some (omega (arith, order, within)) (λ i d low high. others i d low (omega (arith, high, order))))
+
+  -- ## Columns one after another
+
+  -- one more token of those from a place on
+  pub one_behind : (made : List LineTok) (from end at column next : ℕ) (left token : LineTok) → made ≡ slice_range tokens from end → slice_get made at ≡ Some left → slice_get made (at + 1) ≡ Some token → from + (at + 1) < end
+      → column ≡ column_behind style plan tokens (from + at) → next ≡ end_of token (start_by style left column token (slot_of plan token.id.0)) → next ≡ column_behind style plan tokens (from + (at + 1))
+  one_behind made from end at column next left token is here there below known ends =
+      let more : suc (from + at) ≡ from + (at + 1) = omega arith in
+      let left_is : left ≡ get_or tokens (from + at) no_token = in_range at left (omega (arith, below)) here in
+      let token_is : token ≡ get_or tokens (suc (from + at)) no_token = subst (λ k. token ≡ get_or tokens k no_token) (sym more) (in_range (at + 1) token below there) in
+      subst (λ k. next ≡ column_behind style plan tokens k) more
+      (ends ∙ (ap (λ (l : LineTok). end_of token (start_by style l column token (slot_of plan token.id.0))) left_is
+      ∙ (ap (λ x. end_of token (start_by style (get_or tokens (from + at) no_token) x token (slot_of plan token.id.0))) known
+      ∙ ap (λ (t : LineTok). end_of t (start_by style (get_or tokens (from + at) no_token) (column_behind style plan tokens (from + at)) t (slot_of plan t.id.0))) token_is)))
+    where
+      in_range : (i : ℕ) (t : LineTok) → from + i < end → slice_get made i ≡ Some t → t ≡ get_or tokens (from + i) no_token
+      in_range i t inside got =
+          sym (get_or_from_slice_get made i t no_token got) ∙ (ap (λ (xs : List LineTok). get_or xs i no_token) is
+          ∙ (get_or-take (end - from) (drop from tokens) i no_token (omega (arith, inside)) ∙ get_or-drop from tokens i no_token))
 
 -- the comments of a view are those behind its first token
 pub comments_begun : (style : Style) (plan : List (Option Slot)) (tokens : List LineTok) → 0 < length tokens

@@ -1,8 +1,7 @@
 -- Tokens that are no trailing comments.
-use Rattle.std.proofs.Common.{◌≡◌, ◌+◌, ◌<◌, ◌≤◌, ◌⊎◌, inl, inr, ℕ, true, false, Option, Some, List, get_or, slice_get, sym, ap, arith, ◌∙◌}
+use Rattle.std.proofs.Common.{◌≡◌, ◌+◌, ◌<◌, ◌≤◌, ◌⊎◌, inl, inr, ℕ, true, false, Option, List, get_or, sym, arith, ◌∙◌}
 use Rattle.std.specs.Prelude.{IsSome}
 use Rattle.std.proofs.lemmas.Bool.{false≢true}
-use Rattle.std.proofs.lemmas.Option.{get_or_from_slice_get}
 use Rattle.line_tokens.specs.Roles.{is_trailing}
 use Rattle.line_tokens.specs.declared.LineTok.{LineTok}
 use Rattle.replacements.specs.declared.slot.Slot.{Slot}
@@ -20,14 +19,14 @@ others_on tokens from at end before behind i d low high = elim (either_side at i
 ]
 
 -- one more
-pub others_more : (tokens : List LineTok) (from at : ℕ) (token : LineTok) → slice_get tokens at ≡ Some token → is_trailing token.role ≡ false
+pub others_more : (tokens : List LineTok) (from at : ℕ) → ((d : LineTok) → is_trailing (get_or tokens at d).role ≡ false)
     → ((i : ℕ) (d : LineTok) → from ≤ i → i < at → is_trailing (get_or tokens i d).role ≡ false) → (i : ℕ) (d : LineTok) → from ≤ i → i < at + 1 → is_trailing (get_or tokens i d).role ≡ false
-others_more tokens from at token here other before = others_on tokens from at (at + 1) before one
+others_more tokens from at other before = others_on tokens from at (at + 1) before one
   where
     one : (i : ℕ) (d : LineTok) → at ≤ i → i < at + 1 → is_trailing (get_or tokens i d).role ≡ false
     one i d low high =
         let same : i ≡ at = omega (arith, low, high) in
-        rw same (ap (λ (t : LineTok). is_trailing t.role) (get_or_from_slice_get tokens at token d here) ∙ other)
+        rw same (other d)
 
 -- where no token of a stretch is one, each that is one is decided
 pub none_open : (plan : List (Option Slot)) (tokens : List LineTok) (from end : ℕ) → ((i : ℕ) (d : LineTok) → i < from → is_trailing (get_or tokens i d).role ≡ true → IsSome (slot_of plan (get_or tokens i d).id.0))
@@ -38,10 +37,10 @@ none_open plan tokens from end before others i d high waits = elim (either_side 
 ]
 
 -- one that is decided
-pub one_decided : (plan : List (Option Slot)) (tokens : List LineTok) (at : ℕ) (token : LineTok) → slice_get tokens at ≡ Some token → IsSome (slot_of plan token.id.0)
+pub one_decided : (plan : List (Option Slot)) (tokens : List LineTok) (at : ℕ) → ((d : LineTok) → IsSome (slot_of plan (get_or tokens at d).id.0))
     → ((i : ℕ) (d : LineTok) → i < at → is_trailing (get_or tokens i d).role ≡ true → IsSome (slot_of plan (get_or tokens i d).id.0))
     → (i : ℕ) (d : LineTok) → i < at + 1 → is_trailing (get_or tokens i d).role ≡ true → IsSome (slot_of plan (get_or tokens i d).id.0)
-one_decided plan tokens at token here some before i d high waits = elim (either_side at i) [
+one_decided plan tokens at some before i d high waits = elim (either_side at i) [
   | inl earlier ↦ before i d earlier waits
-  | inr later ↦ (let same : i ≡ at = omega (arith, later, high) in rw (same, get_or_from_slice_get tokens at token d here) some)
+  | inr later ↦ (let same : i ≡ at = omega (arith, later, high) in rw same (some d))
 ]

@@ -8,6 +8,7 @@
 mod comments;
 mod place;
 mod rows;
+mod trailing;
 
 pub use comments::{Comment, place_comments};
 pub use place::{TrailRow, align};

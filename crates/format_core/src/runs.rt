@@ -96,7 +96,7 @@ fn lay_out_items(
         arena,
         view,
         classes: read.classes,
-        tokens: read.tokens,
+        tokens: &read.tokens,
     };
     lay_out_view(
         &layout,

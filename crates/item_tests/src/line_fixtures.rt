@@ -1,7 +1,8 @@
 //! Long texts, views of texts, and what the lower layers tell of a text.
 
-ghost use Rattle.std.specs.Prelude.{◌≡◌, IfOk};
+ghost use Rattle.std.specs.Prelude.{◌≡◌, length, IfOk};
 ghost use Rattle.item_classes.specs.Viewed.{AreWithin, classes_of};
+ghost use Rattle.line_tokens.specs.Lines.{CutPlaces};
 
 use annotator::roles_of_classes;
 use bumpalo::Bump;
@@ -65,6 +66,23 @@ pub fn places_of<'r>(
     }
 }
 
+/// The tokens of a view of the text of the case of this name, which these lines cut.
+pub fn tokens_of<'r>(
+    rt: &impl Abort,
+    run: &'r Bump,
+    name: &str,
+    arena: &TokenArena<'_, '_>,
+    view: &View<'_>,
+    lines: &[ULine],
+) -> &'r [LineTok]
+    requires within { AreWithin arena.now view.now }
+    requires cut { CutPlaces 0 (length view.now) lines.now }
+{
+    let Places { classes, partners } = places_of(rt, run, name, arena, view);
+    let tokens = roles_of_classes(arena, view, classes, partners, lines, run).expect(rt, name);
+    tokens.between(0, tokens.len(), run).expect(rt, name)
+}
+
 /// What the lower layers tell of a text.
 #[derive(Drop)]
 pub struct Told<'r, 's> {
@@ -89,7 +107,7 @@ pub fn read_text<'r, 's>(
     let view = items_from(&arena, 0, run).expect(rt, name);
     let Places { classes, partners } = places_of(rt, run, name, &arena, &view);
     let lines = lines_of_classes(&style, &arena, &view, classes, partners, run).expect(rt, name);
-    let tokens = roles_of_classes(&arena, &view, classes, partners, lines, run).expect(rt, name);
+    let tokens = tokens_of(rt, run, name, &arena, &view, lines);
     Told {
         arena,
         lines,

@@ -1,8 +1,7 @@
 //! The roles of whole texts, as `docs/PROFILE.md` says under "Roles".
 
 use crate::comparing::same;
-use crate::line_fixtures::{Places, items_from, places_of, read_text};
-use annotator::roles_of_classes;
+use crate::line_fixtures::{items_from, read_text, tokens_of};
 use bumpalo::Bump;
 use line_tokens::Role::{
     self, AsmColon, Assign, Binary, BlockClose, BlockOpen, CallClose, CallOpen, CastClose,
@@ -344,9 +343,12 @@ fn is_one_line(rt: &impl Abort, run: &Bump, text: &str, want: &[Role]) {
     let arena = build(run, text.as_bytes(), Dialect::C11).expect(rt, text);
     let view = items_from(&arena, 3, run).expect(rt, text);
     assert!(rt; view.len() == 14);
-    let Places { classes, partners } = places_of(rt, run, text, &arena, &view);
-    let found = roles_of_classes(&arena, &view, classes, partners, &[LINE], run).expect(rt, text);
-    have_roles(rt, text, found, want);
+    have_roles(
+        rt,
+        text,
+        tokens_of(rt, run, text, &arena, &view, &[LINE]),
+        want,
+    );
 }
 
 #[test]

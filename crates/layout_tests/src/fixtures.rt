@@ -12,7 +12,7 @@ use annotator::roles_of_classes;
 use bumpalo::Bump;
 use bumpalo::collections::into_bump_slice;
 use item_classes::{classes_among, item_classes};
-use line_tokens::{LineTok, NoMemory, ULine};
+use line_tokens::{NoMemory, ULine};
 use memory_ports::MemSink;
 use replacements::{Plan, write_out};
 use std::alloc::Global;
@@ -21,6 +21,7 @@ use style_table::Style;
 use token_arena::{Dialect, Section, Stretch, TokenArena, View, build};
 use token_classes::{TokenClass, bracket_facts};
 use unwrapped_lines::lines_of_classes;
+use view_tokens::ViewTokens;
 
 /// The style of this name.
 pub fn style(rt: &impl Abort, name: &str) -> Style
@@ -132,29 +133,29 @@ pub fn count_of(flags: &[bool]) -> u32 {
 }
 
 /// What the lower layers tell of a view.
-#[derive(Clone, Copy)]
+#[derive(Drop)]
 pub struct Told<'r> {
     /// The classes of its places.
     pub classes: &'r [TokenClass],
     /// Its lines.
     pub lines: &'r [ULine],
     /// Its tokens.
-    pub tokens: &'r [LineTok],
+    pub tokens: ViewTokens<'r>,
 }
 
 /// The classes, the lines and the tokens of a view.
 pub fn read_view<'r>(
     rt: &impl Abort,
     style: &Style,
-    arena: &TokenArena<'_, '_>,
-    view: &View<'_>,
+    arena: &'r TokenArena<'r, 'r>,
+    view: &'r View<'r>,
     run: &'r Bump,
 ) -> Told<'r>
     requires { AreWithin arena.now view.now }
     ensures classes { result.classes.now ≡ classes_of arena.now view.now }
     ensures cut { CutPlaces 0 (length view.now) result.lines.now }
-    ensures count { length result.tokens.now ≡ length view.now }
-    ensures items { TellItems arena.now view.now result.tokens.now }
+    ensures count { length result.tokens ≡ length view.now }
+    ensures items { TellItems arena.now view.now result.tokens }
 {
     let all = item_classes(arena, run).expect(rt, "the items' classes");
     let classes = classes_among(all, arena, view, run).expect(rt, "classes");

@@ -5,7 +5,7 @@ ghost use Rattle.style_table.specs.Range.{IsInRange};
 ghost use Rattle.item_classes.specs.Viewed.{AreWithin};
 
 use crate::comparing::same;
-use crate::fixtures::{read_view, repeated};
+use crate::fixtures::{items, read_view, repeated, view_of};
 use crate::joined_lines::With::{
     Blocks, Braces, Cases, Enums, Functions, Ifs, Limit, Loops, Unlimited,
 };
@@ -436,8 +436,8 @@ fn joined<'r>(
     rt: &impl Abort,
     name: &str,
     style: &Style,
-    arena: &TokenArena<'_, '_>,
-    view: &View<'_>,
+    arena: &'r TokenArena<'r, 'r>,
+    view: &'r View<'r>,
     decided: Option<(usize, Fixed)>,
     run: &'r Bump,
 ) -> Joined<'r>
@@ -446,29 +446,21 @@ fn joined<'r>(
 {
     let told = read_view(rt, style, arena, view, run);
     let fixed = decisions(rt, told.tokens.len(), decided, run);
-    let found = join_of_classes(style, told.classes, told.lines, told.tokens, fixed, run);
-    (told.tokens, found.expect(rt, name))
-}
-
-/// The items of a text, its tokens, and its lines once short ones are joined in LLVM with these changes.
-fn read<'r, 's>(
-    rt: &impl Abort,
-    keys: &[With],
-    decided: Option<(usize, Fixed)>,
-    text: &'s str,
-    run: &'r Bump,
-) -> (TokenArena<'r, 's>, Joined<'r>) {
-    let style = styled(keys).expect(rt, text);
-    let arena = build(run, text.as_bytes(), Dialect::C11).expect(rt, text);
-    let view = View::of(0, arena.len(), run).expect(rt, text);
-    let found = joined(rt, text, &style, &arena, &view, decided, run);
-    (arena, found)
+    let found = join_of_classes(style, told.classes, told.lines, &told.tokens, fixed, run);
+    let tokens = told
+        .tokens
+        .between(0, told.tokens.len(), run)
+        .expect(rt, name);
+    (tokens, found.expect(rt, name))
 }
 
 /// The text of a case has its rows where this is decided.
 fn has_rows(rt: &impl Abort, run: &Bump, decided: Option<(usize, Fixed)>, case: &Case) {
     let (keys, text, rows) = *case;
-    let (arena, found) = read(rt, keys, decided, text, run);
+    let style = styled(keys).expect(rt, text);
+    let arena = items(rt, text.as_bytes(), run);
+    let view = view_of(rt, &arena, None, run);
+    let found = joined(rt, text, &style, &arena, &view, decided, run);
     are_rows(rt, text, &arena, found, rows);
 }
 
@@ -602,8 +594,11 @@ fn joins_long_lists_in_one_pass(rt: HostRuntime) {
     let run = Bump::new(rt.alloc());
     for case in LONG {
         let (name, keys, head, piece, tail, count) = *case;
+        let style = styled(keys).expect(&rt, name);
         let text = repeated(&rt, rt.alloc(), head, piece, 10_000, tail);
-        let (_arena, found) = read(&rt, keys, None, &text, &run);
-        same(&rt, name, found.1.len(), count);
+        let arena = items(&rt, text.as_bytes(), &run);
+        let view = view_of(&rt, &arena, None, &run);
+        let (_tokens, lines) = joined(&rt, name, &style, &arena, &view, None, &run);
+        same(&rt, name, lines.len(), count);
     }
 }

@@ -245,7 +245,7 @@ fn lay_out<'r>(
         arena,
         view: &view,
         classes: told.classes,
-        tokens: told.tokens,
+        tokens: &told.tokens,
     };
     let mut tally = Tally::new(run);
     lay_out_lines(&layout, 5, told.lines, plan, &mut tally, run).expect(rt, "a layout");

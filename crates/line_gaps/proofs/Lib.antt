@@ -8,4 +8,5 @@ pub mod MadeFor
 pub mod Reporting
 pub mod Inside
 pub mod FixedGaps
+pub mod OpenViews
 pub mod FirstRows

@@ -11,8 +11,12 @@ use Rattle.replacements.specs.Breaks.{fixed_by}
 abbrev pub fixed_of_token : Contents → List (Option Slot) → LineTok → Option Fixed
 fixed_of_token arena plan token = fixed_by arena token.id.0 (slot_of plan token.id.0)
 
--- what is told of the gaps before these tokens, of which so many are looked at: before the others nothing yet
-abbrev pub fixed_up_to : (LineTok → Option Fixed) → List LineTok → ℕ → List (Option Fixed)
-fixed_up_to f [] n = []
-fixed_up_to f (token ∷ tokens) zero = None ∷ fixed_up_to f tokens zero
-fixed_up_to f (token ∷ tokens) (suc n) = f token ∷ fixed_up_to f tokens n
+-- what is decided of the gap before an item
+abbrev pub fixed_of_id : Contents → List (Option Slot) → ℕ → Option Fixed
+fixed_of_id arena plan id = fixed_by arena id (slot_of plan id)
+
+-- what is told of the gaps before these tokens or items, of which so many are looked at: before the others nothing yet
+abbrev pub fixed_up_to : {A : Type 0} → (A → Option Fixed) → List A → ℕ → List (Option Fixed)
+fixed_up_to {A} f [] n = []
+fixed_up_to {A} f (token ∷ tokens) zero = None ∷ fixed_up_to f tokens zero
+fixed_up_to {A} f (token ∷ tokens) (suc n) = f token ∷ fixed_up_to f tokens n

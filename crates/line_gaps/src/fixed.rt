@@ -72,7 +72,7 @@ fn some_open(count: usize) -> &'static [Option<Fixed>]
 }
 
 /// So many gaps of which nothing is decided. They take memory only where there are very many.
-fn all_open<'r>(count: usize, run: &'r Bump) -> Result<&'r [Option<Fixed>], NoMemory>
+pub(crate) fn all_open<'r>(count: usize, run: &'r Bump) -> Result<&'r [Option<Fixed>], NoMemory>
     ensures { IfOk result (λ fixed. fixed.now ≡ replicate count None) }
 {
     if count <= OPEN.len() {
@@ -82,7 +82,7 @@ fn all_open<'r>(count: usize, run: &'r Bump) -> Result<&'r [Option<Fixed>], NoMe
 }
 
 /// The same, to be changed: they take memory, few or many.
-fn own_open<'r>(count: usize, run: &'r Bump) -> Result<&'r mut [Option<Fixed>], NoMemory>
+pub(crate) fn own_open<'r>(count: usize, run: &'r Bump) -> Result<&'r mut [Option<Fixed>], NoMemory>
     ensures { IfOk result (λ fixed. fixed.now ≡ replicate count None) }
 {
     if count <= OPEN.len() {
@@ -136,8 +136,7 @@ fn tell_eight(
     tell_decided(arena, tokens, plan, first, first + 8, fixed);
 }
 
-/// What is decided of the gaps before these tokens. Before those of a part of which no run has decided anything it is
-/// nothing, as the first run finds it in most parts. Want of memory is the only error.
+/// What is decided of the gaps before these tokens, which of most lines is nothing. Want of memory is the only error.
 pub fn fixed_of<'r>(
     arena: &TokenArena<'_, '_>,
     tokens: &[LineTok],

@@ -1,10 +1,10 @@
 //! What stays the same for all lines of a view.
 
-use line_tokens::LineTok;
 use std::alloc::Global;
 use style_table::Style;
 use token_arena::{TokenArena, View};
 use token_classes::TokenClass;
+use view_tokens::ViewTokens;
 
 /// A view, and what its lines are laid out by.
 #[derive(Clone, Copy)]
@@ -22,5 +22,5 @@ pub struct ViewLayout<'v> {
     /// The classes of the view's places.
     pub classes: &'v [TokenClass],
     /// The tokens of the view's places.
-    pub tokens: &'v [LineTok],
+    pub tokens: &'v ViewTokens<'v>,
 }

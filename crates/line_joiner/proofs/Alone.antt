@@ -1,14 +1,14 @@
 -- Lines with whose kind no row of the table begins.
-use Rattle.std.proofs.Common.{◌≡◌, ◌∙◌, ℕ, ◌+◌, ◌-◌, ◌<◌, Bool, true, false, Option, refl, List, [], ◌∷◌, ◌++◌, drop, length, get_or, take, sym, ap}
-use Rattle.std.proofs.lemmas.List.{append_assoc, drop_more}
-use Rattle.std.specs.Prelude.{if◌then◌else◌, ◌&&◌, ◌||◌, nat_lt, not}
+use Rattle.std.proofs.Common.{◌≡◌, ◌∙◌, ℕ, suc, ◌+◌, ◌-◌, ◌<◌, Bool, true, false, Option, refl, List, [], ◌∷◌, ◌++◌, drop, length, get_or, take, sym, ap, arith, ◌⊎◌, inl, inr}
+use Rattle.std.proofs.lemmas.List.{append_assoc, drop_more, get_or_default}
+use Rattle.std.specs.Prelude.{All, if◌then◌else◌, ◌&&◌, ◌||◌, nat_lt, not}
 use Rattle.std.proofs.lemmas.Bool.{or_parts}
 use Rattle.line_tokens.specs.declared.LineTok.{LineTok}
 use Rattle.line_tokens.specs.declared.line.ULine.{ULine}
 use Rattle.style_table.specs.declared.style.Style.{Style}
 use Rattle.token_classes.specs.declared.class.TokenClass.{TokenClass}
 use Rattle.line_tokens.specs.declared.Fixed.{Fixed}
-use Rattle.line_joiner.specs.Joined.{joined_from, lines_joined, may_join, merged}
+use Rattle.line_joiner.specs.Joined.{joined, joined_from, lines_joined, may_join, merged}
 use Rattle.line_joiner.specs.Kinds.{is_case_label, is_control, is_enum_head, is_func_head, is_loop, is_struct_head, may_have_else}
 use Rattle.line_joiner.specs.Facts.{is_attached, is_bare_header, word_of}
 use Rattle.line_joiner.specs.Heads.{heads_row, joins_blocks, joins_functions, joins_headers, joins_some_ifs}
@@ -139,3 +139,21 @@ joined_pushed style classes toks fixed skip more lines i d old new all within no
     ∙ (append_assoc old (merged line (take more rest) ∷ []) (joined_from style classes toks fixed more rest)
     ∙ (ap (λ (ls : List ULine). old ++ ls) (sym at)
     ∙ (ap (λ (n : ℕ). old ++ joined_from style classes toks fixed n (drop i lines)) (sym none) ∙ so)))
+
+either_side : (at i : ℕ) → i < at + 1 → (i < at) ⊎ (i ≡ at)
+either_side at i high = grind arith
+
+-- one more of them
+pub one_more_alone : (style : Style) (lines : List ULine) (at : ℕ) (e : ULine) → at < length lines → heads_row style (get_or lines at e).kind ≡ false → ((i : ℕ) (d : ULine) → i < at → heads_row style (get_or lines i d).kind ≡ false)
+    → (i : ℕ) (d : ULine) → i < at + 1 → heads_row style (get_or lines i d).kind ≡ false
+one_more_alone style lines at e within alone before i d high = elim (either_side at i high) [
+  | inl earlier ↦ before i d earlier
+  | inr here ↦ rw (here, get_or_default lines at d e within) alone
+]
+
+-- where all lines are such, they stay as they are
+pub stay_alone : (style : Style) (classes : List TokenClass) (toks : List LineTok) (fixed : List (Option Fixed)) (lines : List ULine) → All (λ (line : ULine). heads_row style line.kind ≡ false) lines → joined style classes toks fixed lines ≡ lines
+stay_alone style classes toks fixed [] none = refl
+stay_alone style classes toks fixed (line ∷ lines) none =
+    ap (λ (n : ℕ). merged line (take n lines) ∷ joined_from style classes toks fixed n lines) (none_joined style classes toks fixed line lines (none 0 line (omega arith)))
+    ∙ ap (λ (ls : List ULine). line ∷ ls) (stay_alone style classes toks fixed lines (λ i d within. none (suc i) d (omega (arith, within))))

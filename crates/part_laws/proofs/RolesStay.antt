@@ -20,10 +20,11 @@ use Rattle.token_classes.specs.Classes.{is_comment, is_word}
 use Rattle.item_classes.specs.Viewed.{AreWithin, item_class, classes_of}
 use Rattle.unwrapped_lines.proofs.Started.{lines_cut_views}
 use Rattle.token_roles.specs.declared.mark.Mark.{Mark}
-use Rattle.annotator.specs.Tokens.{roles_of, toks_from}
+use Rattle.view_tokens.specs.Tokens.{toks_from}
+use Rattle.annotator.specs.Tokens.{roles_of}
 use Rattle.item_classes.specs.Items.{stands_apart}
 use Rattle.annotator.specs.View.{marks_of}
-use Rattle.annotator.proofs.Told.{as_many_toks}
+use Rattle.view_tokens.proofs.Told.{as_many_toks}
 use Rattle.part_laws.specs.Declarations.{start, next_end, or_all, first_len, ends_from}
 use Rattle.part_laws.specs.LinesCut.{IsFirstPart, partners_in}
 use Rattle.unwrapped_lines.specs.Lines.{lines_of_items}

@@ -10,7 +10,7 @@ use Rattle.token_classes.specs.declared.class.TokenClass.TheVariants.{Nothing}
 use Rattle.token_classes.specs.Classes.{is_before_list, is_close_round}
 use Rattle.item_classes.specs.Viewed.{item_class, classes_of}
 use Rattle.token_roles.specs.declared.mark.Mark.{Mark}
-use Rattle.annotator.specs.Tokens.{toks_from}
+use Rattle.view_tokens.specs.Tokens.{toks_from}
 use Rattle.annotator.specs.View.{Sights, marks_onto}
 use Rattle.part_laws.specs.LinesCut.{partner_behind, line_behind}
 use Rattle.part_laws.specs.RolesCut.{ItemRun, IsCut, TellsParts}

@@ -10,7 +10,7 @@ use Rattle.token_arena.specs.Gaps.{Contents}
 use Rattle.token_roles.specs.declared.mark.Mark.{Mark}
 use Rattle.token_roles.specs.Classes.{is_hash}
 use Rattle.token_roles.specs.Held.{is_inner, is_held}
-use Rattle.annotator.specs.Tokens.{tok_of, toks_from}
+use Rattle.view_tokens.specs.Tokens.{tok_of, toks_from}
 use Rattle.item_classes.specs.Items.{stands_apart}
 use Rattle.part_laws.specs.RolesCut.{ends_inner, with_first_apart}
 

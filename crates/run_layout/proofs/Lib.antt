@@ -5,6 +5,7 @@ pub mod OneBreaking
 pub mod OneRow
 pub mod RowSteps
 pub mod RowBounds
+pub mod RowRoles
 pub mod LineFacts
 pub mod Writing
 pub mod RowLines

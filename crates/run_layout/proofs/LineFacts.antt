@@ -64,12 +64,6 @@ pub fixed_are : (arena : Contents) (ids : List ℕ) (toks : List LineTok) (plan 
 fixed_are arena ids toks plan line tell =
     ap (λ (xs : List ℕ). map (λ id. fixed_by arena id (slot_of plan id)) xs) (sym (line_numbers arena ids toks line tell)) ∙ map_numbers (λ id. fixed_by arena id (slot_of plan id)) (of_line line toks)
 
--- and of those of all items of a view
-pub view_fixed : (arena : Contents) (ids : List ℕ) (toks : List LineTok) (plan : List (Option Slot)) → StandForItems arena ids toks
-    → map (λ id. fixed_by arena id (slot_of plan id)) ids ≡ map (fixed_of_token arena plan) toks
-view_fixed arena ids toks plan tell =
-    ap (λ (xs : List ℕ). map (λ id. fixed_by arena id (slot_of plan id)) xs) (sym (numbers_are arena ids toks tell)) ∙ map_numbers (λ id. fixed_by arena id (slot_of plan id)) toks
-
 -- ## A line whose inner gaps are open
 
 inside_open : (arena : Contents) (plan : List (Option Slot)) (tokens : List LineTok) (i : ℕ) → ((token : LineTok) → slice_get tokens i ≡ Some token → slot_of plan token.id.0 ≡ None)

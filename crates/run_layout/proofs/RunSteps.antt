@@ -1,21 +1,16 @@
 -- The lines of a run, one after another.
-use Rattle.std.specs.Prelude.{Some, slice_get}
 use Rattle.std.proofs.lemmas.List.{append-nil}
-use Rattle.std.proofs.lemmas.Option.{get_or_from_slice_get}
 use Rattle.std.proofs.Common.{◌≡◌, ◌∙◌, ℕ, suc, ◌+◌, ◌<◌, ◌≤◌, Option, List, [], ◌∷◌, ◌++◌, length, get_or, drop}
 use Rattle.std.proofs.Common.{append_assoc, refl, sym, ap, arith, subst}
 use Rattle.std.proofs.Math.Seq.{drop-cons}
 use Rattle.style_table.specs.declared.style.Style.{Style}
 use Rattle.line_tokens.specs.declared.LineTok.{LineTok}
 use Rattle.token_arena.specs.Gaps.{Contents}
-use Rattle.item_classes.specs.Viewed.{AreWithin}
 use Rattle.line_tokens.specs.declared.line.ULine.{ULine}
 use Rattle.line_tokens.specs.Lines.{CutPlaces}
 use Rattle.replacements.specs.declared.slot.Slot.{Slot}
 use Rattle.replacements.specs.Decisions.{decided_all}
 use Rattle.line_gaps.specs.InputColumns.{input_before}
-use Rattle.line_tokens.specs.Tokens.{no_token}
-use Rattle.run_layout.specs.Tells.{StandForItems}
 use Rattle.line_gaps.proofs.Walked.{cut_before}
 use Rattle.run_layout.specs.Outcomes.{LineOutcome, Kept, Only, Least, Over, LaidLine, AfterLines, outcome_made, row_of}
 use Rattle.run_layout.specs.Reports.{report_by, searched_by, cost_by, reports_of, searched_of, cost_of, report_told}
@@ -172,24 +167,6 @@ pub first_within : (style : Style) (arena : Contents) (ids : List ℕ) (place co
 first_within style arena ids place column lines i d within a =
     let n = next_needs style arena ids place column lines i d within a in
     omega (arith, n.some, n.within)
-
--- and of their tokens
-pub first_among : (style : Style) (arena : Contents) (ids : List ℕ) (toks : List LineTok) (place column : ℕ) (lines : List ULine) (i : ℕ) (d : ULine) → length toks ≡ length ids → i < length lines
-    → IsAhead style arena ids place column (drop i lines) → (get_or lines i d).first < length toks
-first_among style arena ids toks place column lines i d many within a = omega (arith, first_within style arena ids place column lines i d within a, many)
-
--- so its first item is one of the text
-pub first_there : (style : Style) (arena : Contents) (ids : List ℕ) (place column : ℕ) (lines : List ULine) (i : ℕ) (d : ULine) (id : ℕ) → i < length lines → IsAhead style arena ids place column (drop i lines) → AreWithin arena ids
-    → id ≡ get_or ids (get_or lines i d).first 0 → id < length arena.tokens
-first_there style arena ids place column lines i d id within a items at =
-    let small : get_or ids (get_or lines i d).first 0 < length arena.tokens = items (get_or lines i d).first 0 (first_within style arena ids place column lines i d within a) in
-    omega (arith, small, at)
-
--- its token tells its number
-pub first_told : (arena : Contents) (ids : List ℕ) (toks : List LineTok) (k : ℕ) (token : LineTok) → StandForItems arena ids toks → k < length ids → slice_get toks k ≡ Some token → token.id.0 ≡ get_or ids k 0
-first_told arena ids toks k token tell within at =
-    let is : get_or toks k no_token ≡ token = get_or_from_slice_get toks k token no_token at in
-    ap (λ (t : LineTok). t.id.0) (sym is) ∙ (tell.items k within).number
 
 -- there are no more lines than places
 pub cut_count : (at count : ℕ) (lines : List ULine) → CutPlaces at count lines → at + length lines ≤ count

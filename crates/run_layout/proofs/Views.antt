@@ -19,15 +19,13 @@ use Rattle.replacements.specs.Sound.{IsSound}
 use Rattle.replacements.proofs.Firsts.{stay}
 use Rattle.comment_rows.specs.Comments.{comments_made}
 use Rattle.line_tokens.specs.Tokens.{no_token}
-use Rattle.line_gaps.specs.Fixed.{fixed_of_token}
+use Rattle.line_gaps.specs.Fixed.{fixed_of_id}
 use Rattle.run_layout.specs.Outcomes.{LaidLine, AfterLines}
 use Rattle.run_layout.specs.RunsLaid.{IsRunLaid}
-use Rattle.run_layout.specs.Tells.{StandForItems}
 use Rattle.run_layout.specs.View.{joined_lines, AfterView, IsViewLaid}
 use Rattle.run_layout.specs.ViewLaws.{ViewsStaySound, ViewsKeep, ViewsDecide}
 use Rattle.run_layout.specs.declared.report.Tally.{Tally}
 use Rattle.run_layout.proofs.LaidLines.{lines_stay_sound, lines_keep, lines_decide, lines_length}
-use Rattle.run_layout.proofs.LineFacts.{view_fixed}
 use Rattle.line_gaps.proofs.MadeFor.{IsDecided, is_some-decided, length-decided_all}
 use Rattle.run_layout.proofs.WaitingComments.{AreLaidOut, comments_decide, comments_stay_sound}
 
@@ -77,14 +75,23 @@ view_length style budget arena ids toks run plan lines final done after =
     ap (λ (p : List (Option Slot)). length p) after.2 ∙ (length-decided_all after.0 (comments_made style toks after.0) ∙ same_length style budget arena ids toks run plan lines done after.0 after.1)
 
 -- what was made of a view's lines is what its definition says
-pub view_laid : (style : Style) (budget : ℕ) (arena : Contents) (ids : List ℕ) (toks : List LineTok) (run : ℕ) (plan : List (Option Slot)) (lines rows : List ULine) (classes : List TokenClass) (fixed : List (Option Fixed))
-    (laid_plan final : List (Option Slot)) (before after : Tally) → StandForItems arena ids toks → classes ≡ classes_of arena ids → fixed ≡ map (fixed_of_token arena plan) toks → rows ≡ joined style classes toks fixed lines
-    → IsRunLaid style budget arena ids toks run plan rows laid_plan before after → final ≡ decided_all laid_plan (comments_made style toks laid_plan) → IsViewLaid style budget arena ids toks run plan lines final before after
-view_laid style budget arena ids toks run plan lines rows classes fixed laid_plan final before after tell classes_is fixed_is rows_is laid final_is =
-    let rows_are : rows ≡ joined_lines style arena ids toks plan lines =
+-- the lines of a view are joined by its classes and by what the plan has for its gaps
+pub rows_joined : (style : Style) (arena : Contents) (ids : List ℕ) (toks : List LineTok) (plan : List (Option Slot)) (lines rows : List ULine) (classes : List TokenClass) (fixed : List (Option Fixed))
+    → classes ≡ classes_of arena ids → fixed ≡ map (fixed_of_id arena plan) ids → rows ≡ joined style classes toks fixed lines → rows ≡ joined_lines style arena ids toks plan lines
+rows_joined style arena ids toks plan lines rows classes fixed classes_is fixed_is rows_is =
     rows_is
     ∙ (ap (λ (cs : List TokenClass). joined style cs toks fixed lines) classes_is
-    ∙ ap (λ (fs : List (Option Fixed)). joined style (classes_of arena ids) toks fs lines) (fixed_is ∙ sym (view_fixed arena ids toks plan tell))) in
+    ∙ ap (λ (fs : List (Option Fixed)). joined style (classes_of arena ids) toks fs lines) fixed_is)
+
+-- where none is joined, whatever is decided, they stay as they are
+pub alone_joined : (style : Style) (arena : Contents) (ids : List ℕ) (toks : List LineTok) (plan : List (Option Slot)) (lines : List ULine)
+    → ((classes : List TokenClass) (toks : List LineTok) (fixed : List (Option Fixed)) → joined style classes toks fixed lines ≡ lines) → lines ≡ joined_lines style arena ids toks plan lines
+alone_joined style arena ids toks plan lines alone = sym (alone (classes_of arena ids) toks (map (fixed_of_id arena plan) ids))
+
+pub view_laid : (style : Style) (budget : ℕ) (arena : Contents) (ids : List ℕ) (toks : List LineTok) (run : ℕ) (plan : List (Option Slot)) (lines rows : List ULine)
+    (laid_plan final : List (Option Slot)) (before after : Tally) → rows ≡ joined_lines style arena ids toks plan lines
+    → IsRunLaid style budget arena ids toks run plan rows laid_plan before after → final ≡ decided_all laid_plan (comments_made style toks laid_plan) → IsViewLaid style budget arena ids toks run plan lines final before after
+view_laid style budget arena ids toks run plan lines rows laid_plan final before after rows_are laid final_is =
     record {
       done = laid.done;
       view_is = (laid_plan, subst (λ (ls : List ULine). AfterLines style budget arena ids toks run plan ls laid_plan laid.done) rows_are laid.lines_are, final_is);

@@ -94,6 +94,11 @@ pub record IsShortRow (tokens : List LineTok) (behind count : ℕ) : Type 0 wher
   pub wait : All (λ token. is_trailing token.role ≡ true) (drop count tokens)
   pub few : behind + width_to tokens (count - 1) ≤ 1000
 
+-- no directive stands between two of these tokens
+abbrev pub StandTogether : List LineTok → Type 0
+StandTogether tokens =
+    (k : ℕ) (d : LineTok) → 0 < k → k < length tokens → (get_or tokens k d).directive ≡ false
+
 -- Lines of at most so many tokens need no count of their cells, since so few have never more than the budget, and there
 -- is a limit of columns. Without one, or with a smaller budget, it is none.
 pub record NeedNoCount (style : Style) (budget few : ℕ) : Type 0 where

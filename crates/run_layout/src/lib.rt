@@ -10,7 +10,9 @@ mod laid;
 mod laws;
 mod lines;
 mod report;
+mod roles;
 mod row;
+mod short_row;
 mod view;
 
 pub use laid::Laid;

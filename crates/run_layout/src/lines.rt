@@ -7,7 +7,6 @@ ghost use Rattle.item_classes.specs.Viewed.{AreWithin, classes_of};
 ghost use Rattle.item_classes.specs.Items.{TellItems};
 ghost use Rattle.line_state.specs.Line.{gaps};
 ghost use Rattle.run_layout.specs.Ready.{IsOpenLine, IsReady};
-ghost use Rattle.run_layout.specs.Tells.{StandForItems};
 ghost use Rattle.replacements.specs.Decisions.{decided_all};
 ghost use Rattle.line_gaps.specs.Counted.{IsCounted};
 ghost use Rattle.run_layout.specs.Broken.{broken_line, broken_made, of_line};
@@ -22,10 +21,8 @@ ghost use Rattle.run_layout.specs.Told.{IsLaid};
 use crate::broken::{OpenLine, write_broken};
 use crate::laid::Laid;
 use crate::report::{Tally, note_line};
-use crate::row::{
-    end_of, few_tokens, first_start, is_open_row, may_be_short, short_row, write_row,
-    write_short_row,
-};
+use crate::row::{end_of, first_start, is_open_row, write_row};
+use crate::short_row::{end_at, few_tokens, short_row, write_short_row};
 use break_search::{Outcome, search};
 use bumpalo::Bump;
 use layout_tables::{RowBlanks, start_column};
@@ -36,24 +33,15 @@ use line_tokens::{LineTok, NoMemory, ULine};
 use line_walk::least_breaks;
 use replacements::Plan;
 
-/// The tokens of a line, among those of a view.
-#[inline(always)]
-fn tokens_of_line<'v>(toks: &'v [LineTok], line: &ULine) -> &'v [LineTok]
-    requires some { line.now.first ≤ line.now.last }
-    requires within { line.now.last < length toks.now }
-    ensures { result.now ≡ of_line line.now toks.now }
-{
-    &toks[line.first as usize..line.last as usize + 1]
-}
-
 /// Lays out a line whose gaps are open, if it is far from the limit, as most are. Otherwise nothing is decided. The
-/// table of blanks is read for few gaps.
+/// table of blanks is read for few gaps. `segment` is the number of the view's segment that was looked into last.
 #[inline(always)]
 fn lay_out_short_row(
     layout: &ViewLayout<'_>,
     line: &ULine,
     blanks: &RowBlanks,
     few: usize,
+    segment: &mut usize,
     plan: &mut Plan<'_>,
 ) -> bool
     requires ready { IsReady layout.now }
@@ -77,36 +65,40 @@ fn lay_out_short_row(
     let style = layout.style;
     let arena = layout.arena;
     let items = arena.len();
-    let tokens = tokens_of_line(layout.tokens, line);
-    let token = token_at(tokens, 0);
-    let id = token.id.0;
+    let end = line.last as usize + 1;
+    let Some(row) = layout.tokens.row(line.first as usize, end, segment) else {
+        return false;
+    };
+    let id = row.id(0);
     prove!(id < items);
     if plan.is_decided(id) {
         return false;
     }
-    let column = start_column(style, line);
-    if !may_be_short(style, tokens, column, layout.budget, few) {
+    if row.len() > few {
         return false;
     }
-    let Some(count) = short_row(style, tokens, column, plan) else {
+    let column = start_column(style, line);
+    let Some(count) = short_row(style, &row, column, plan) else {
         return false;
     };
-    let behind = end_of(token, column);
+    let behind = end_at(&row, 0, column);
     decide_first(layout, line, id, plan);
-    write_short_row(style, blanks, tokens, count, behind, plan);
+    write_short_row(style, blanks, &row, count, behind, plan);
     true
 }
 
-/// Lays out a line whose inner gaps are open, if it stays on one row. Otherwise nothing is decided. It takes no memory.
+/// Lays out a line with these tokens whose inner gaps are open, if it stays on one row. Otherwise nothing is decided.
 #[inline(never)]
 fn lay_out_row(
     layout: &ViewLayout<'_>,
     line: &ULine,
+    tokens: &[LineTok],
     blanks: &RowBlanks,
     plan: &mut Plan<'_>,
 ) -> bool
     requires ready { IsReady layout.now }
     requires tell { TellBlanks layout.now.style.now blanks.now.of_group }
+    requires tokens { tokens.now ≡ of_line line.now layout.now.tokens.now }
     requires some { line.now.first ≤ line.now.last }
     requires places { line.now.last < length layout.now.view.now }
     requires whole { length plan.old ≡ length layout.now.arena.now.tokens + 1 }
@@ -124,7 +116,6 @@ fn lay_out_row(
     let style = layout.style;
     let arena = layout.arena;
     let items = arena.len();
-    let tokens = tokens_of_line(layout.tokens, line);
     if style.column_limit == 0 {
         return false;
     }
@@ -214,11 +205,12 @@ fn lay_out_limited(
     }
 }
 
-/// Lays out a line that has an open gap and doesn't stay on one row.
+/// Lays out a line with these tokens that has an open gap and doesn't stay on one row.
 #[inline(never)]
 fn lay_out_searched(
     layout: &ViewLayout<'_>,
     line: &ULine,
+    tokens: &[LineTok],
     blanks: &RowBlanks,
     cursor: &mut InputCursor,
     plan: &mut Plan<'_>,
@@ -226,6 +218,7 @@ fn lay_out_searched(
 ) -> Result<Laid, NoMemory>
     requires ready { IsReady layout.now }
     requires tell { TellBlanks layout.now.style.now blanks.now.of_group }
+    requires tokens { tokens.now ≡ of_line line.now layout.now.tokens.now }
     requires some { line.now.first ≤ line.now.last }
     requires places { line.now.last < length layout.now.view.now }
     requires whole { length plan.old ≡ length layout.now.arena.now.tokens + 1 }
@@ -242,7 +235,6 @@ fn lay_out_searched(
 {
     let count = layout.view.len();
     prove!(line.last < count);
-    let tokens = tokens_of_line(layout.tokens, line);
     let fixed = fixed_of(layout.arena, tokens, plan, run)?;
     let open_line = OpenLine {
         line,
@@ -264,15 +256,16 @@ fn is_line_decided(
     segment: &mut usize,
 ) -> bool
     requires items { AreWithin layout.now.arena.now layout.now.view.now }
-    requires tell { StandForItems layout.now.arena.now layout.now.view.now layout.now.tokens.now }
     requires some { line.now.first ≤ line.now.last }
     requires places { line.now.last < length layout.now.view.now }
     requires whole { length plan.now ≡ length layout.now.arena.now.tokens + 1 }
     ensures yes { OnTrue result (AreDecided plan.now layout.now.view.now line.now) }
     ensures no { OnFalse result (IsOpen plan.now layout.now.view.now line.now) }
 {
-    let first = token_at(layout.tokens, line.first as usize);
-    if plan.slot(first.id.0).is_none() {
+    let items = layout.arena.len();
+    let first = layout.view.at_near(line.first, segment).0;
+    prove!(first < items);
+    if !plan.is_decided(first) {
         return false;
     }
     is_decided(layout.arena, layout.view, line, plan, segment)
@@ -308,10 +301,12 @@ fn lay_out_other_line(
     if is_line_decided(layout, line, plan, segment) {
         return Ok(Laid::Unsearched);
     }
-    if lay_out_row(layout, line, blanks, plan) {
+    let end = line.last as usize + 1;
+    let tokens = layout.tokens.between(line.first as usize, end, run)?;
+    if lay_out_row(layout, line, tokens, blanks, plan) {
         return Ok(Laid::Least { cost: 0 });
     }
-    lay_out_searched(layout, line, blanks, cursor, plan, run)
+    lay_out_searched(layout, line, tokens, blanks, cursor, plan, run)
 }
 
 /// Lays out a line: decides its open gaps, and tells what came of it. `segment` is the number of the view's segment
@@ -343,7 +338,7 @@ fn lay_out_line(
     ensures column { OnOk result (cursor.new.column
         ≡ input_before layout.now.style.now layout.now.arena.now layout.now.view.now cursor.new.place) }
 {
-    if lay_out_short_row(layout, line, blanks, few, plan) {
+    if lay_out_short_row(layout, line, blanks, few, segment, plan) {
         return Ok(Laid::Least { cost: 0 });
     }
     lay_out_other_line(layout, line, blanks, segment, cursor, plan, run)
@@ -395,8 +390,7 @@ pub fn lay_out_lines(
             plan,
             run,
         )?;
-        let id = token_at(layout.tokens, line.first as usize).id.0;
-        note_line(layout.arena, number, id, laid, tally)?;
+        note_line(layout.arena, layout.view, number, line.first, laid, tally)?;
     }
     Ok(())
 }

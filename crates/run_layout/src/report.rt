@@ -1,16 +1,17 @@
 //! What came of the lines of a text.
 
-ghost use Rattle.std.specs.Prelude.{◌≡◌, ◌++◌, ◌+◌, ◌*◌, ◌<◌, ◌≤◌, ◌^◌, [], OnOk, length};
+ghost use Rattle.std.specs.Prelude.{◌≡◌, ◌++◌, ◌+◌, ◌*◌, ◌<◌, ◌≤◌, ◌^◌, [], OnOk, get_or, length};
 ghost use Rattle.token_arena.specs.Gaps.{Contents};
 ghost use Rattle.line_gaps.specs.Counted.{IsCounted};
 ghost use Rattle.run_layout.specs.Reports.{cost_told, report_told, searched_told};
 ghost use Rattle.item_classes.specs.Items.{item_at};
+ghost use Rattle.item_classes.specs.Viewed.{AreWithin};
 
 use crate::laid::Laid;
 use bumpalo::Bump;
 use line_gaps::{LineCount, line_of};
 use line_tokens::NoMemory;
-use token_arena::TokenArena;
+use token_arena::{TokenArena, View};
 
 /// A line that has more cells than the budget: its inner gaps keep their bytes.
 #[derive(Clone, Copy, Debug, PartialEq, Eq)]
@@ -69,20 +70,23 @@ impl<'a> Tally<'a> {
     }
 }
 
-/// Notes what came of a line, which begins with the item with this number.
+/// Notes what came of a line, which begins at this place of a view.
 pub(crate) fn note_line(
     arena: &TokenArena<'_, '_>,
+    view: &View<'_>,
     run: u32,
-    id: u32,
+    first: u32,
     laid: Laid,
     tally: &mut Tally<'_>,
 ) -> Result<(), NoMemory>
-    requires within { id < length arena.now.tokens }
+    requires items { AreWithin arena.now view.now }
+    requires within { first < length view.now }
     requires room { tally.old.searched < 2 ^ 60 }
     requires cheap { tally.old.cost ≤ tally.old.searched * 18446744073709551615 }
     requires counted { IsCounted arena.now tally.old.lines }
     ensures reports { OnOk result
-        (tally.new.reports.items ≡ tally.old.reports.items ++ report_told run (item_at arena.now id).line laid) }
+        (tally.new.reports.items
+        ≡ tally.old.reports.items ++ report_told run (item_at arena.now (get_or view.now first 0)).line laid) }
     ensures searched { OnOk result (tally.new.searched ≡ tally.old.searched + searched_told laid) }
     ensures cost { OnOk result (tally.new.cost ≡ tally.old.cost + cost_told laid) }
     ensures room { OnOk result (tally.new.searched ≤ tally.old.searched + 1) }
@@ -96,6 +100,7 @@ pub(crate) fn note_line(
             tally.cost += u128::from(cost);
         }
         Laid::Over { cells } => {
+            let id = view.at(first).0;
             let line = line_of(arena, id, &mut tally.lines);
             tally.reports.push(Report { run, line, cells })?;
         }

@@ -1,7 +1,7 @@
-//! Lines that stay on one row. They need no search, and take no memory.
+//! Lines that stay on one row. They need no search.
 
-ghost use Rattle.std.specs.Prelude.{◌≡◌, ◌+◌, ◌<◌, ◌≤◌, ◌^◌, All, IfSome, IsTrue, None, Some, drop, false, ℕ, get_or};
-ghost use Rattle.std.specs.Prelude.{if◌then◌else◌, length, true};
+ghost use Rattle.std.specs.Prelude.{◌≡◌, ◌+◌, ◌<◌, ◌≤◌, ◌^◌, All, IsTrue, None, drop, get_or};
+ghost use Rattle.std.specs.Prelude.{if◌then◌else◌, length};
 ghost use Rattle.line_tokens.specs.Roles.{is_trailing};
 ghost use Rattle.style_table.specs.Range.{IsInRange};
 ghost use Rattle.line_state.specs.Brackets.{opens_frame};
@@ -11,11 +11,9 @@ ghost use Rattle.line_tokens.specs.Tokens.{no_token};
 ghost use Rattle.replacements.specs.declared.gap_text.Decision.TheVariants.{Spaces};
 ghost use Rattle.replacements.specs.Decisions.{decided, decided_all};
 ghost use Rattle.layout_tables.specs.Told.{TellBlanks};
-ghost use Rattle.run_layout.specs.OneRow.{AreOpenInside, Fits, IsRow, IsRowLine, IsShortRow, NeedNoCount, open_behind};
-ghost use Rattle.run_layout.specs.OneRow.{row_made};
-ghost use Rattle.layout_tables.specs.Breaks.{gap_rule};
+ghost use Rattle.run_layout.specs.OneRow.{AreOpenInside, Fits, IsRow, IsRowLine, open_behind, row_made};
 
-use layout_tables::{RowBlanks, must_break, stands_behind};
+use layout_tables::{RowBlanks, must_break};
 use line_gaps::token_at;
 use line_tokens::{Fixed, LineTok};
 use replacements::{Decision, Plan};
@@ -124,42 +122,6 @@ fn is_row_by_table(
     cells <= budget
 }
 
-/// Whether the cells of a line with these tokens need no count, since so few have never more than the budget.
-#[inline(always)]
-fn are_few(tokens: &[LineTok], budget: u64) -> bool
-    ensures few { IsTrue result → length tokens.now ≤ 1000 }
-    ensures budget { IsTrue result → 1001000 ≤ budget }
-{
-    tokens.len() <= 1000 && budget >= 1_001_000
-}
-
-/// At least as many columns as the first row of a token takes, and as the last one: the bitwise or of two numbers has
-/// each bit that one of them has. For most tokens both are one row, and this is its width.
-#[inline(always)]
-fn most_width(token: &LineTok) -> u32
-    ensures first { token.now.first_width ≤ result }
-    ensures last { token.now.last_width ≤ result }
-{
-    token.first_width | token.last_width
-}
-
-/// Whether the token at a place is a trailing comment that ends its line and stays behind another.
-#[inline(always)]
-fn ends_waiting(
-    style: &Style,
-    tokens: &[LineTok],
-    at: usize,
-    left: &LineTok,
-    right: &LineTok,
-) -> bool
-    requires { at < length tokens.now }
-    ensures last { IsTrue result → at + 1 ≡ length tokens.now }
-    ensures waits { IsTrue result → is_trailing right.now.role ≡ true }
-    ensures stays { IsTrue result → (gap_rule style.now left.now right.now).must ≡ false }
-{
-    at + 1 == tokens.len() && right.role.is_trailing() && !must_break(style, left, right)
-}
-
 /// The column up to which a line that starts at a column seems to go with no blank in it. Of its last token, which may
 /// be a comment, nothing is counted.
 #[inline(always)]
@@ -169,92 +131,6 @@ fn least_end(tokens: &[LineTok], column: u32) -> u64 {
         end = end.wrapping_add(u64::from(token_at(tokens, at - 1).last_width));
     }
     end
-}
-
-/// How many tokens a line may have that needs no look at its length before it is tested for a short row.
-pub(crate) fn few_tokens(style: &Style, budget: u64) -> usize
-    ensures { NeedNoCount style.now budget result }
-{
-    if style.column_limit > 0 && budget >= 1_001_000 {
-        15
-    } else {
-        0
-    }
-}
-
-/// Whether a line doesn't seem too long for a short row. That is looked at first where it has many tokens, since their
-/// widths are told in few steps.
-fn seems_short(style: &Style, tokens: &[LineTok], column: u32, budget: u64) -> bool
-    ensures few { IsTrue result → length tokens.now ≤ 1000 }
-    ensures limit { IsTrue result → 0 < style.now.column_limit }
-    ensures budget { IsTrue result → 1001000 ≤ budget }
-{
-    if style.column_limit == 0 || !are_few(tokens, budget) {
-        return false;
-    }
-    least_end(tokens, column).wrapping_add(tokens.len() as u64) <= u64::from(style.column_limit) + 2
-}
-
-/// Whether a line is to be tested for a short row: it has few tokens, or doesn't seem too long.
-#[inline(always)]
-pub(crate) fn may_be_short(
-    style: &Style,
-    tokens: &[LineTok],
-    column: u32,
-    budget: u64,
-    few: usize,
-) -> bool
-    requires some { 0 < length tokens.now }
-    requires few { NeedNoCount style.now budget few }
-    ensures few { IsTrue result → length tokens.now ≤ 1000 }
-    ensures limit { IsTrue result → 0 < style.now.column_limit }
-    ensures budget { IsTrue result → 1001000 ≤ budget }
-{
-    tokens.len() <= few || seems_short(style, tokens, column, budget)
-}
-
-/// How many tokens of a line whose first gap is open stand in its row before a trailing comment that ends it, where the
-/// line stays on one row as [`is_open_row`] says it and the gaps inside it are open. It is told by one blank in each
-/// gap: the table has no more but before trailing comments.
-#[inline(always)]
-pub(crate) fn short_row(
-    style: &Style,
-    tokens: &[LineTok],
-    column: u32,
-    plan: &Plan<'_>,
-) -> Option<usize>
-    requires range { IsInRange style.now }
-    requires limit { 0 < style.now.column_limit }
-    requires some { 0 < length tokens.now }
-    requires few { length tokens.now ≤ 1000 }
-    requires within { All (λ token. token.id.0 < length plan.now) tokens.now }
-    ensures inside { IfSome result (λ count. AreOpenInside plan.now tokens.now) }
-    ensures row { IfSome result (λ count.
-        (l : Line) (budget : ℕ) → 1001000 ≤ budget → IsRowLine l style.now column tokens.now None → IsRow l budget) }
-    ensures short { IfSome result
-        (λ count. IsShortRow tokens.now (end_of (get_or tokens.now 0 no_token) column) count) }
-{
-    let limit = u64::from(style.column_limit);
-    let mut left = token_at(tokens, 0);
-    let mut most = u64::from(column) + u64::from(most_width(left));
-    for at in 1..tokens.len() {
-        let right = token_at(tokens, at);
-        if plan.is_decided(right.id.0) {
-            return None;
-        }
-        if !stands_behind(left, right) {
-            if most > limit || !ends_waiting(style, tokens, at, left, right) {
-                return None;
-            }
-            return Some(at);
-        }
-        most += 1 + u64::from(most_width(right));
-        left = right;
-    }
-    if most > limit {
-        return None;
-    }
-    Some(tokens.len())
 }
 
 /// Whether the gaps inside a line with these tokens are open.
@@ -305,48 +181,6 @@ fn write_stay(token: &LineTok, spaces: u32, start: u32, plan: &mut Plan<'_>)
 {
     if !token.role.is_trailing() {
         let _ = plan.decide(token.id.0, Decision::Spaces(spaces), start);
-    }
-}
-
-/// The column behind a token that starts at a column, where none passes the largest number.
-#[inline(always)]
-fn near_end_of(token: &LineTok, start: u32) -> u32
-    requires { start + token.now.last_width < 2 ^ 32 }
-    ensures { result ≡ end_of token.now start }
-{
-    if token.rows > 1 {
-        token.last_width
-    } else {
-        start + token.last_width
-    }
-}
-
-/// Decides the gaps inside a short line, whose first token ends at a column, up to a trailing comment that waits.
-pub(crate) fn write_short_row(
-    style: &Style,
-    blanks: &RowBlanks,
-    tokens: &[LineTok],
-    count: usize,
-    column: u32,
-    plan: &mut Plan<'_>,
-)
-    requires range { IsInRange style.now }
-    requires tell { TellBlanks style.now blanks.now.of_group }
-    requires short { IsShortRow tokens.now column count }
-    requires within { All (λ token. token.id.0 < length plan.old) tokens.now }
-    ensures plan { plan.new
-        ≡ decided_all plan.old (row_made style.now column (get_or tokens.now 0 no_token) (drop 1 tokens.now)) }
-    ensures len { length plan.new ≡ length plan.old }
-{
-    let mut left = token_at(tokens, 0);
-    let mut column = column;
-    for at in 1..count {
-        let right = token_at(tokens, at);
-        let spaces = u32::from(blanks.before(style, left, right));
-        let start = column + spaces;
-        let _ = plan.decide(right.id.0, Decision::Spaces(spaces), start);
-        column = near_end_of(right, start);
-        left = right;
     }
 }
 

@@ -17,6 +17,6 @@ pub record IsRead (style : Style) (arena : Contents) (ids : List ℕ) (read : Re
   pub marks : length read.kept.now ≡ length ids
   pub lines : read.lines.now ≡ lines_of_items style arena ids
   pub cut : CutPlaces 0 (length ids) read.lines.now
-  pub tokens : read.tokens.now ≡ toks_of_lines arena ids (lines_of_items style arena ids)
-  pub count : length read.tokens.now ≡ length ids
-  pub tell : TellItems arena ids read.tokens.now
+  pub tokens : read.tokens ≡ toks_of_lines arena ids (lines_of_items style arena ids)
+  pub count : length read.tokens ≡ length ids
+  pub tell : TellItems arena ids read.tokens

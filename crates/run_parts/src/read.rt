@@ -7,14 +7,15 @@ ghost use Rattle.run_parts.specs.Read.{IsRead};
 use annotator::roles_of_classes;
 use bumpalo::Bump;
 use item_classes::classes_among;
-use line_tokens::{LineTok, NoMemory, ULine};
+use line_tokens::{NoMemory, ULine};
 use style_table::Style;
 use token_arena::{TokenArena, View};
 use token_classes::{TokenClass, bracket_facts};
 use unwrapped_lines::lines_of_classes;
+use view_tokens::ViewTokens;
 
 /// What is read of the items of a view.
-#[derive(Clone, Copy)]
+#[derive(Drop)]
 pub struct ReadItems<'r> {
     /// The classes of the places.
     pub classes: &'r [TokenClass],
@@ -23,16 +24,16 @@ pub struct ReadItems<'r> {
     /// The unwrapped lines.
     pub lines: &'r [ULine],
     /// The tokens.
-    pub tokens: &'r [LineTok],
+    pub tokens: ViewTokens<'r>,
 }
 
 /// Reads the items of a view, where these are the classes of all items. Want of memory is the only error.
 #[inline(always)]
 pub fn read_items<'r>(
     style: &Style,
-    arena: &TokenArena<'_, '_>,
+    arena: &'r TokenArena<'r, 'r>,
     all: &'r [TokenClass],
-    view: &View<'_>,
+    view: &'r View<'r>,
     run: &'r Bump,
 ) -> Result<ReadItems<'r>, NoMemory>
     requires all { all.now ≡ item_classes arena.now }

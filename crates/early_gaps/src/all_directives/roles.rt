@@ -47,7 +47,8 @@ fn roles_between<'r>(
     let classes = classes_among(all, arena, &view, run)?;
     let facts = bracket_facts(classes, run)?;
     let lines = [one_line(end - first)];
-    roles_of_classes(arena, &view, classes, facts.partners, &lines, run)
+    let toks = roles_of_classes(arena, &view, classes, facts.partners, &lines, run)?;
+    toks.between(0, toks.len(), run)
 }
 
 /// Whether no gap of a directive keeps the input's bytes.

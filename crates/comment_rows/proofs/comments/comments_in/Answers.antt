@@ -1,45 +1,50 @@
-use Rattle.std.proofs.Common.{◌≡◌, ◌∙◌, ◌+◌, ◌-◌, ◌++◌, ℕ, List, ap, arith, drop, get_or, sym}
-use Rattle.std.proofs.lemmas.Option.{get_or_from_slice_get}
+use Rattle.std.proofs.Common.{◌≡◌, ◌∙◌, ◌+◌, ◌<◌, ◌++◌, List, ap, arith, get_or, length, sym}
+use Rattle.std.proofs.lemmas.Bool.{eqb-false}
 use Rattle.line_tokens.specs.Columns.{end_of}
 use Rattle.line_tokens.specs.Tokens.{no_token}
-use Rattle.comment_rows.specs.Comments.{column_behind, comments_behind, first_start}
+use Rattle.comment_rows.specs.Comments.{first_start}
 use Rattle.comment_rows.specs.declared.comments.Comment.{Comment}
-use Rattle.comment_rows.proofs.BehindTokens.{one_more, others_passed, comments_begun}
+use Rattle.comment_rows.proofs.BehindTokens.{comments_begun, comments_from, found_more, none_between}
 use Rattle.comment_rows.proofs.comments.comments_in.Goals as goal
 
 pub loop-at-init : goal.loop-at-init
 loop-at-init c =
     let style = c.args.style.now in
     let plan = c.args.plan.now in
-    let tokens = c.args.tokens.now in
-    let token = c.token_at-first.result.now in
-    let at : ℕ = c.next_trailing-at.result in
+    let tokens = c.args.toks.now in
+    let token = c.at-first.result in
     let first = c.next_trailing-at.ensures in
-    let same : get_or tokens 0 no_token ≡ token = get_or_from_slice_get tokens 0 token no_token c.token_at-first.ensures in
+    let at = c.next_trailing-at.result in
+    let same : get_or tokens 0 no_token ≡ token = sym (c.at-first.ensures no_token) in
+    let some : 0 < length tokens = omega (arith, eqb-false (length tokens) 0 (sym c.is_empty.ensures ∙ c.if-is_empty.false)) in
     record {
       from = first.later;
       within = first.within;
+      found = first.found;
       order = omega (arith, first.later);
       known = rw same (c.end_of.ensures ∙ ap (λ start. end_of token start) (c.first_start.ensures ∙ ap first_start c.slot.ensures));
-      kept = ap (λ (items : List Comment). items ++ comments_behind style plan (get_or tokens (at - 1) no_token) (column_behind style plan tokens (at - 1)) (drop at tokens)) c.new-comments.ensures.items
-          ∙ (sym (others_passed style plan tokens 1 at (omega arith) first.later first.within first.others) ∙ comments_begun style plan tokens (omega (arith, first.later, first.within)));
+      kept = ap (λ (items : List Comment). items ++ comments_from style plan tokens at) c.new-comments.ensures.items
+          ∙ (none_between style plan tokens 1 at (omega arith) first.later first.within first.others ∙ comments_begun style plan tokens some);
     }
 
 pub loop-at-preserved : goal.loop-at-preserved
 loop-at-preserved c =
-    let v = c.loop-at.invariant in
-    let at = c.loop-at.at in
     let style = c.args.style.now in
     let plan = c.args.plan.now in
-    let tokens = c.args.tokens.now in
-    let kept = c.in_ok-keep_comment.ensures in
+    let tokens = c.args.toks.now in
+    let v = c.loop-at.invariant in
+    let at = c.loop-at.at in
+    let made = c.in_ok-comment_at.ensures in
     let next = c.next_trailing-at-in-loop-at.ensures in
-    let now = c.keep_comment.new.comments.items in
+    let on = c.next_trailing-at-in-loop-at.result in
+    let below : at < length tokens = omega (arith, c.loop-at-test.true, c.len.ensures) in
+    let items : List Comment = c.push.new.self.items in
     record {
-      from = omega (arith, next.later);
+      from = omega (arith, v.from, next.later);
       within = next.within;
-      order = omega (arith, kept.order, next.later);
-      known = kept.known;
-      kept = ap (λ (later : List Comment). now ++ later) (sym (others_passed style plan tokens (at + 1) c.next_trailing-at-in-loop-at.result (omega arith) next.later next.within next.others))
-          ∙ (one_more style plan tokens at c.loop-at.comments.items now v.from (omega (arith, c.loop-at-test.true)) kept.comments ∙ v.kept);
+      found = next.found;
+      order = omega (arith, made.order, next.later);
+      known = made.known;
+      kept = ap (λ (later : List Comment). items ++ later) (none_between style plan tokens (at + 1) on (omega arith) next.later next.within next.others)
+          ∙ (found_more style plan tokens at c.loop-at.comments.items items c.in_ok-comment_at.field-0 v.from below (v.found below no_token) made.comment c.in_ok-push.ensures.items ∙ v.kept);
     }

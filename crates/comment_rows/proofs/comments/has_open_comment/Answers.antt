@@ -1,4 +1,7 @@
-use Rattle.std.proofs.Common.{◌+◌, arith}
+use Rattle.std.proofs.Common.{◌+◌, arith, subst}
+use Rattle.std.specs.Prelude.{IsSome}
+use Rattle.line_tokens.specs.declared.LineTok.{LineTok}
+use Rattle.replacements.specs.Decisions.{slot_of}
 use Rattle.comment_rows.proofs.Others.{none_open, one_decided}
 use Rattle.comment_rows.proofs.comments.has_open_comment.Goals as goal
 
@@ -7,7 +10,7 @@ loop-at-init c =
     let first = c.next_trailing-at.ensures in
     record {
       within = first.within;
-      decided = none_open c.args.plan.now c.args.tokens.now 0 c.next_trailing-at.result (λ i d high. absurd (omega (arith, high))) first.others;
+      decided = none_open c.args.plan.now c.args.toks.now 0 c.next_trailing-at.result (λ i d high. absurd (omega (arith, high))) first.others;
     }
 
 pub loop-at-preserved : goal.loop-at-preserved
@@ -17,6 +20,6 @@ loop-at-preserved c =
     let next = c.next_trailing-at-in-loop-at.ensures in
     record {
       within = next.within;
-      decided = none_open c.args.plan.now c.args.tokens.now (at + 1) c.next_trailing-at-in-loop-at.result
-          (one_decided c.args.plan.now c.args.tokens.now at c.token_at.result.now c.token_at.ensures (c.is_decided.ensures.0 c.if-not-is_decided.false) v.decided) next.others;
+      decided = none_open c.args.plan.now c.args.toks.now (at + 1) c.next_trailing-at-in-loop-at.result
+          (one_decided c.args.plan.now c.args.toks.now at (λ d. subst (λ (t : LineTok). IsSome (slot_of c.args.plan.now t.id.0)) (c.at.ensures d) (c.is_decided.ensures.0 c.if-not-is_decided.false)) v.decided) next.others;
     }

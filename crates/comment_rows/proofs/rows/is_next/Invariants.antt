@@ -1,9 +1,13 @@
-use Rattle.std.proofs.Common.{◌≡◌, ◌≤◌, drop}
+use Rattle.std.proofs.Common.{◌≡◌, ◌≤◌, ◌-◌, drop, length}
 use Rattle.comment_rows.specs.Comments.{is_next}
 use Rattle.comment_rows.proofs.rows.is_next.Given as goal
 
-abbrev pub invariant-loop-token : goal.invariant-loop-token
-invariant-loop-token l = record {
+abbrev pub invariant-loop-place : goal.invariant-loop-place
+invariant-loop-place l = record {
   short : l.ended ≤ 1;
-  rest : is_next l.plan l.ended (drop l.token-index l.tokens) ≡ is_next l.plan 0 l.tokens;
+  within : l.place ≤ length l.toks;
+  rest : is_next l.plan l.ended (drop l.place l.toks) ≡ is_next l.plan 0 (drop l.first l.toks);
 }
+
+abbrev pub decreases-loop-place : goal.decreases-loop-place
+decreases-loop-place l = length l.toks - l.place

@@ -52,7 +52,7 @@ returns c =
     let read = c.in_ok-read.ensures in
     record {
       told = on_ok_weaker c.lay_out_view.result (λ laid.
-          items_from style c.args.context.now.budget arena c.args.number plan c.keep_gaps.new.plan ids c.in_ok-read.read.tokens.now c.in_ok-read.read.lines.now c.lay_out_view.new.plan c.args.made.now.tally c.lay_out_view.new.tally
+          items_from style c.args.context.now.budget arena c.args.number plan c.keep_gaps.new.plan ids c.in_ok-read.read.tokens c.in_ok-read.read.lines.now c.lay_out_view.new.plan c.args.made.now.tally c.lay_out_view.new.tally
           read.tokens (c.keep_gaps.ensures.plan ∙ ap (λ (marks : List Bool). decided_all plan (kept_decisions style arena 0 ids marks)) read.kept) read.lines laid) c.lay_out_view.ensures.laid;
       made = made_so c.lay_out_view.result arena (record { plan = c.lay_out_view.new.plan; tally = c.lay_out_view.new.tally })
           (on_ok_weaker c.lay_out_view.result (λ len. len ∙ (c.keep_gaps.ensures.len ∙ c.requires.made.whole)) c.lay_out_view.ensures.len) c.lay_out_view.ensures.cheap c.lay_out_view.ensures.counted;

@@ -1,9 +1,7 @@
-use Rattle.std.proofs.Common.{◌∙◌, ap, arith}
+use Rattle.std.proofs.Common.{◌∙◌, refl, arith}
 use Rattle.std.proofs.Math.ListN.{drop_of_length-le}
-use Rattle.item_classes.specs.Items.{item_at}
 use Rattle.run_layout.proofs.Telling.{stand_for_items}
-use Rattle.run_layout.proofs.RunSteps.{line_done, lines_end, ahead_more, next_needs, first_within, first_among}
-use Rattle.run_layout.proofs.RunSteps.{first_there, first_told}
+use Rattle.run_layout.proofs.RunSteps.{line_done, lines_end, ahead_more, next_needs, first_within}
 use Rattle.run_layout.proofs.Failed.{not_done}
 use Rattle.run_layout.proofs.lines.lay_out_lines.Goals as goal
 
@@ -20,15 +18,9 @@ lay_out_line-requires-clause-ready c = record {
   tell = stand_for_items c.args.layout.now.arena.now c.args.layout.now.view.now c.args.layout.now.tokens.now c.requires.count c.requires.tell;
 }
 
-pub token_at-requires : goal.token_at-requires
-token_at-requires c =
-    first_among c.args.layout.now.style.now c.args.layout.now.arena.now c.args.layout.now.view.now c.args.layout.now.tokens.now c.loop-line.cursor.place c.loop-line.cursor.column c.args.lines.now c.loop-line.line-index _ c.requires.count c.loop-line-test.true c.loop-line.invariant.ahead
-
 pub note_line-requires-clause-within : goal.note_line-requires-clause-within
 note_line-requires-clause-within c =
-    let within = first_within c.args.layout.now.style.now c.args.layout.now.arena.now c.args.layout.now.view.now c.loop-line.cursor.place c.loop-line.cursor.column c.args.lines.now c.loop-line.line-index _ c.loop-line-test.true c.loop-line.invariant.ahead in
-    first_there c.args.layout.now.style.now c.args.layout.now.arena.now c.args.layout.now.view.now c.loop-line.cursor.place c.loop-line.cursor.column c.args.lines.now c.loop-line.line-index _ c.token_at.result.now.id.0 c.loop-line-test.true c.loop-line.invariant.ahead
-    c.requires.within (first_told c.args.layout.now.arena.now c.args.layout.now.view.now c.args.layout.now.tokens.now _ c.token_at.result.now (stand_for_items c.args.layout.now.arena.now c.args.layout.now.view.now c.args.layout.now.tokens.now c.requires.count c.requires.tell) within c.token_at.ensures)
+    first_within c.args.layout.now.style.now c.args.layout.now.arena.now c.args.layout.now.view.now c.loop-line.cursor.place c.loop-line.cursor.column c.args.lines.now c.loop-line.line-index _ c.loop-line-test.true c.loop-line.invariant.ahead
 
 pub loop-line-preserved : goal.loop-line-preserved
 loop-line-preserved c =
@@ -36,7 +28,6 @@ loop-line-preserved c =
     let i = c.loop-line.line-index in
     let made = c.in_ok-laid.ensures in
     let told = c.in_ok-note_line.ensures in
-    let within = first_within c.args.layout.now.style.now c.args.layout.now.arena.now c.args.layout.now.view.now c.loop-line.cursor.place c.loop-line.cursor.column c.args.lines.now i _ c.loop-line-test.true v.ahead in
     record {
       len = made.len ∙ v.len;
       ahead = ahead_more c.args.layout.now.style.now c.args.layout.now.arena.now c.args.layout.now.view.now c.loop-line.cursor.place c.loop-line.cursor.column c.lay_out_line.new.cursor.place c.lay_out_line.new.cursor.column c.args.lines.now i _ c.loop-line-test.true v.ahead
@@ -45,8 +36,7 @@ loop-line-preserved c =
       cheap = told.cheap;
       counted = told.counted;
       on = line_done c.args.layout.now.style.now c.args.layout.now.budget c.args.layout.now.arena.now c.args.layout.now.view.now c.args.layout.now.tokens.now c.args.number c.args.plan.now c.args.lines.now c.args.tally.now c.loop-line.tally c.note_line.new.tally c.loop-line.plan c.lay_out_line.new.plan i _
-          (item_at c.args.layout.now.arena.now c.token_at.result.now.id.0).line c.in_ok-laid.laid c.loop-line-test.true v.on made.laid
-          (ap (λ x. (item_at c.args.layout.now.arena.now x).line) (first_told c.args.layout.now.arena.now c.args.layout.now.view.now c.args.layout.now.tokens.now _ c.token_at.result.now (stand_for_items c.args.layout.now.arena.now c.args.layout.now.view.now c.args.layout.now.tokens.now c.requires.count c.requires.tell) within c.token_at.ensures))
+          _ c.in_ok-laid.laid c.loop-line-test.true v.on made.laid refl
           told.reports told.searched told.cost;
     }
 

@@ -1,24 +1,28 @@
-use Rattle.std.proofs.Common.{◌≡◌, ◌∙◌, List, Option, length, ap, subst, sym}
+use Rattle.std.proofs.Common.{◌≡◌, ◌∙◌, List, Option, length, ap, subst, sym, arith}
 use Rattle.std.specs.Prelude.{IfOk, OnOk}
 use Rattle.replacements.specs.declared.slot.Slot.{Slot}
 use Rattle.line_gaps.specs.OpenGaps.{IsOpen}
 use Rattle.run_layout.specs.Told.{IsLaid}
 use Rattle.run_layout.proofs.LineOutcomes.{row_laid}
+use Rattle.run_layout.proofs.Failed.{no_value, not_done}
 use Rattle.run_layout.proofs.lines.lay_out_other_line.Goals as goal
 
 pub is_line_decided-requires : goal.is_line_decided-requires
 is_line_decided-requires c = record {
   items = c.requires.ready.within;
-  tell = c.requires.ready.tell;
   some = c.requires.some;
   places = c.requires.places;
   whole = c.requires.whole;
 }
 
+pub between-requires : goal.between-requires
+between-requires c = record { order = omega (arith, c.requires.some); within = omega (arith, c.requires.places, c.requires.ready.tell.as_many) }
+
 pub lay_out_row-requires : goal.lay_out_row-requires
 lay_out_row-requires c = record {
   ready = c.requires.ready;
   tell = c.requires.tell;
+  tokens = c.in_ok-tokens.ensures;
   some = c.requires.some;
   places = c.requires.places;
   whole = c.requires.whole;
@@ -35,6 +39,7 @@ lay_out_searched-requires c =
     record {
       ready = c.requires.ready;
       tell = c.requires.tell;
+      tokens = c.in_ok-tokens.ensures;
       some = c.requires.some;
       places = c.requires.places;
       whole = ap (λ (plan : List (Option Slot)). length plan) same ∙ c.requires.whole;
@@ -52,4 +57,15 @@ returns c =
       len = subst (λ (plan : List (Option Slot)). OnOk c.lay_out_searched.result (length c.lay_out_searched.new.plan ≡ length plan)) same c.lay_out_searched.ensures.len;
       before = c.lay_out_searched.ensures.before;
       column = c.lay_out_searched.ensures.column;
+    }
+
+pub returns-in_err-tokens : goal.returns-in_err-tokens
+returns-in_err-tokens c =
+    let result = c.from_residual.result in
+    let err = c.from_residual.ensures.0 in
+    record {
+      laid = no_value result _ err;
+      len = not_done result _ err;
+      before = not_done result _ err;
+      column = not_done result _ err;
     }

@@ -8,13 +8,10 @@ use Rattle.run_layout.proofs.lines.lay_out_searched.Goals as goal
 pub prove-unreachable-requires : goal.prove-unreachable-requires
 prove-unreachable-requires c = omega (arith, c.requires.places, c.len-count.ensures.count, c.if-prove.true)
 
-pub tokens_of_line-tokens-requires : goal.tokens_of_line-tokens-requires
-tokens_of_line-tokens-requires c = record { some = c.requires.some; within = omega (arith, c.requires.places, c.requires.ready.tell.as_many) }
-
 pub fixed_of-requires : goal.fixed_of-requires
 fixed_of-requires c = record {
   whole = c.requires.whole;
-  within = tokens_within c.args.layout.now.arena.now c.args.layout.now.view.now c.args.layout.now.tokens.now c.tokens_of_line-tokens.result.now c.args.line.now (length c.args.plan.now) c.requires.ready.within c.requires.ready.tell c.requires.places c.requires.whole c.tokens_of_line-tokens.ensures;
+  within = tokens_within c.args.layout.now.arena.now c.args.layout.now.view.now c.args.layout.now.tokens.now c.args.tokens.now c.args.line.now (length c.args.plan.now) c.requires.ready.within c.requires.ready.tell c.requires.places c.requires.whole c.requires.tokens;
 }
 
 pub lay_out_unlimited-requires : goal.lay_out_unlimited-requires
@@ -27,7 +24,7 @@ lay_out_unlimited-requires c = record {
     small = omega (arith, c.if-prove.false);
     whole = c.requires.whole;
     opens = c.requires.opens;
-    tokens_are = c.tokens_of_line-tokens.ensures;
+    tokens_are = c.requires.tokens;
     fixed_are = c.in_ok-fixed.ensures;
   };
   limit = c.if-layout-eq0.true;
@@ -51,7 +48,7 @@ lay_out_limited-requires c = record {
     small = omega (arith, c.if-prove.false);
     whole = c.requires.whole;
     opens = c.requires.opens;
-    tokens_are = c.tokens_of_line-tokens.ensures;
+    tokens_are = c.requires.tokens;
     fixed_are = c.in_ok-fixed.ensures;
   };
   limit = above_zero c.args.layout.now.style.now.column_limit c.if-layout-eq0.false;

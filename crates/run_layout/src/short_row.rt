@@ -1,0 +1,232 @@
+//! Short rows: lines that stay on one row far from the limit, as most do. Little is read of their tokens.
+
+ghost use Rattle.std.specs.Prelude.{◌≡◌, ◌+◌, ◌-◌, ◌<◌, ◌≤◌, ◌^◌, All, IfSome, IsTrue, None, drop, false, ℕ, get_or};
+ghost use Rattle.std.specs.Prelude.{if◌then◌else◌, length, min, true};
+ghost use Rattle.line_tokens.specs.declared.LineTok.{LineTok};
+ghost use Rattle.line_tokens.specs.Roles.{is_trailing};
+ghost use Rattle.style_table.specs.Range.{IsInRange};
+ghost use Rattle.line_tokens.specs.Columns.{end_of};
+ghost use Rattle.line_state.specs.Line.{Line};
+ghost use Rattle.line_tokens.specs.Tokens.{no_token};
+ghost use Rattle.replacements.specs.Decisions.{decided_all};
+ghost use Rattle.layout_tables.specs.Breaks.{ends_its_row};
+ghost use Rattle.layout_tables.specs.Spaces.{spaces_before};
+ghost use Rattle.layout_tables.specs.Told.{TellBlanks, group_before, group_behind};
+ghost use Rattle.run_layout.specs.OneRow.{AreOpenInside, IsRow, IsRowLine, IsShortRow, NeedNoCount};
+ghost use Rattle.run_layout.specs.OneRow.{StandTogether, row_made};
+
+use crate::roles::{ends_row, groups_of, is_own_or_trailing};
+use layout_tables::{RowBlanks, spaces_before};
+use replacements::{Decision, Plan};
+use style_table::Style;
+use view_tokens::RowTokens;
+
+/// The column behind the token at a place that starts at a column.
+pub(crate) fn end_at(tokens: &RowTokens<'_>, at: usize, start: u32) -> u32
+    requires { at < length tokens.now }
+    ensures { result ≡ end_of (get_or tokens.now at no_token) start }
+{
+    let extent = tokens.extent(at);
+    if extent.rows > 1 {
+        extent.last_width
+    } else {
+        start.saturating_add(extent.last_width)
+    }
+}
+
+/// The same, where no column passes the largest number.
+#[inline(always)]
+fn near_end_at(tokens: &RowTokens<'_>, at: usize, start: u32) -> u32
+    requires within { at < length tokens.now }
+    requires near { start + (get_or tokens.now at no_token).last_width < 2 ^ 32 }
+    ensures { result ≡ end_of (get_or tokens.now at no_token) start }
+{
+    if tokens.is_one_row(at) {
+        return start + tokens.extent(at).last_width;
+    }
+    end_at(tokens, at, start)
+}
+
+/// At least as many columns as the first row of the token at a place takes, and as the last one: the bitwise or of two
+/// numbers has each bit that one of them has.
+#[inline(never)]
+fn most_of_rows(tokens: &RowTokens<'_>, at: usize) -> u32
+    requires { at < length tokens.now }
+    ensures first { (get_or tokens.now at no_token).first_width ≤ result }
+    ensures last { (get_or tokens.now at no_token).last_width ≤ result }
+{
+    let extent = tokens.extent(at);
+    extent.first_width | extent.last_width
+}
+
+/// The same. For most tokens both are one row, and this is its width.
+#[inline(always)]
+fn most_width(tokens: &RowTokens<'_>, at: usize) -> u32
+    requires { at < length tokens.now }
+    ensures first { (get_or tokens.now at no_token).first_width ≤ result }
+    ensures last { (get_or tokens.now at no_token).last_width ≤ result }
+{
+    if tokens.is_one_row(at) {
+        return tokens.extent(at).last_width;
+    }
+    most_of_rows(tokens, at)
+}
+
+/// How many tokens a line may have that is tested for a short row.
+pub(crate) fn few_tokens(style: &Style, budget: u64) -> usize
+    ensures { NeedNoCount style.now budget result }
+{
+    if style.column_limit > 0 && budget >= 1_001_000 {
+        1000
+    } else {
+        0
+    }
+}
+
+/// Whether the token at a place is a trailing comment that ends its line and stays behind another.
+#[inline(always)]
+fn ends_waiting(tokens: &RowTokens<'_>, at: usize) -> bool
+    requires some { 0 < at }
+    requires short { length tokens.now ≤ 1000 }
+    requires within { at < length tokens.now }
+    ensures last { IsTrue result → at + 1 ≡ length tokens.now }
+    ensures waits { IsTrue result → is_trailing (get_or tokens.now at no_token).role ≡ true }
+    ensures goes_on { IsTrue result → ends_its_row (get_or tokens.now (at - 1) no_token).kind ≡ false }
+    ensures apart { IsTrue result → (get_or tokens.now at no_token).trailing_list ≡ false }
+{
+    at + 1 == tokens.len()
+        && tokens.role(at).is_trailing()
+        && !ends_row(tokens.kind(at - 1), tokens.is_in_trailing_list(at))
+}
+
+/// How many tokens of a line whose first gap is open stand in its row before a trailing comment that ends it, where the
+/// line stays on one row as [`is_open_row`] says it and the gaps inside it are open. It is told by one blank in each
+/// gap: the table has no more but before trailing comments.
+#[inline(always)]
+pub(crate) fn short_row(
+    style: &Style,
+    tokens: &RowTokens<'_>,
+    column: u32,
+    plan: &Plan<'_>,
+) -> Option<usize>
+    requires range { IsInRange style.now }
+    requires limit { 0 < style.now.column_limit }
+    requires some { 0 < length tokens.now }
+    requires few { length tokens.now ≤ 1000 }
+    requires together { StandTogether tokens.now }
+    requires within { All (λ token. token.id.0 < length plan.now) tokens.now }
+    ensures inside { IfSome result (λ count. AreOpenInside plan.now tokens.now) }
+    ensures row { IfSome result (λ count.
+        (l : Line) (budget : ℕ) → 1001000 ≤ budget → IsRowLine l style.now column tokens.now None → IsRow l budget) }
+    ensures short { IfSome result
+        (λ count. IsShortRow tokens.now (end_of (get_or tokens.now 0 no_token) column) count) }
+{
+    let limit = u64::from(style.column_limit);
+    let mut kind = tokens.kind(0);
+    let mut most = u64::from(column) + u64::from(most_width(tokens, 0));
+    for at in 1..tokens.len() {
+        if most > limit {
+            return None;
+        }
+        if plan.is_decided(tokens.id(at)) {
+            return None;
+        }
+        if ends_row(kind, tokens.is_in_trailing_list(at)) | is_own_or_trailing(tokens.role(at)) {
+            if !ends_waiting(tokens, at) {
+                return None;
+            }
+            return Some(at);
+        }
+        most += 1 + u64::from(most_width(tokens, at));
+        kind = tokens.kind(at);
+    }
+    if most > limit {
+        return None;
+    }
+    Some(tokens.len())
+}
+
+/// The blanks before the token at a place of a row, by the table.
+#[inline(never)]
+fn spaces_by_table(style: &Style, tokens: &RowTokens<'_>, at: usize) -> u8
+    requires range { IsInRange style.now }
+    requires some { 0 < at }
+    requires within { at < length tokens.now }
+    ensures { result ≡ spaces_before style.now (get_or tokens.now (at - 1) no_token) (get_or tokens.now at no_token) }
+{
+    let left = tokens.at(at - 1);
+    let right = tokens.at(at);
+    spaces_before(style, &left, &right)
+}
+
+/// One blank or none.
+#[inline(always)]
+fn one_if(holds: bool) -> u8
+    ensures { result ≡ (if holds then 1 else 0) }
+{
+    if holds { 1 } else { 0 }
+}
+
+/// The blanks before a token of a row, by the groups of its role and of the one before it. Where these tell nothing the
+/// table is read, and where they tell none in a gap with bytes, whether the two items may touch.
+#[inline(always)]
+fn spaces_at(
+    style: &Style,
+    blanks: &RowBlanks,
+    tokens: &RowTokens<'_>,
+    at: usize,
+    group: usize,
+) -> u8
+    requires range { IsInRange style.now }
+    requires tell { TellBlanks style.now blanks.now.of_group }
+    requires some { 0 < at }
+    requires within { at < length tokens.now }
+    requires few { group ≤ 9 }
+    requires group { group
+        ≡ min (group_behind (get_or tokens.now (at - 1) no_token).role)
+        (group_before (get_or tokens.now at no_token).role) }
+    ensures { result
+        ≡ spaces_before style.now (get_or tokens.now (at - 1) no_token) (get_or tokens.now at no_token) }
+{
+    let told = blanks.of_group[group];
+    if told > 1 {
+        return spaces_by_table(style, tokens, at);
+    }
+    // One test of a sum, since whether a blank stands there is hard to foresee.
+    if told + one_if(tokens.is_behind_nothing(at)) == 0 {
+        return one_if(!tokens.touches(at));
+    }
+    told
+}
+
+/// Decides the gaps inside a short line, whose first token ends at a column, up to a trailing comment that waits.
+#[inline(always)]
+pub(crate) fn write_short_row(
+    style: &Style,
+    blanks: &RowBlanks,
+    tokens: &RowTokens<'_>,
+    count: usize,
+    column: u32,
+    plan: &mut Plan<'_>,
+)
+    requires range { IsInRange style.now }
+    requires tell { TellBlanks style.now blanks.now.of_group }
+    requires short { IsShortRow tokens.now column count }
+    requires within { All (λ token. token.id.0 < length plan.old) tokens.now }
+    ensures plan { plan.new
+        ≡ decided_all plan.old (row_made style.now column (get_or tokens.now 0 no_token)
+        (drop 1 tokens.now)) }
+    ensures len { length plan.new ≡ length plan.old }
+{
+    let mut behind = groups_of(tokens.role(0)).behind;
+    let mut column = column;
+    for at in 1..count {
+        let groups = groups_of(tokens.role(at));
+        let group = behind.min(groups.before);
+        let spaces = u32::from(spaces_at(style, blanks, tokens, at, group));
+        let start = column + spaces;
+        let _ = plan.decide(tokens.id(at), Decision::Spaces(spaces), start);
+        column = near_end_at(tokens, at, start);
+        behind = groups.behind;
+    }
+}

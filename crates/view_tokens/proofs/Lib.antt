@@ -1,0 +1,5 @@
+pub mod Items
+pub mod Told
+pub mod Pushed
+pub mod Rows
+pub mod Starts

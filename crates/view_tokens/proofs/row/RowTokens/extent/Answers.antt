@@ -1,0 +1,20 @@
+use Rattle.std.proofs.Common.{sym, ap, ◌∙◌}
+use Rattle.line_tokens.specs.declared.LineTok.{LineTok}
+use Rattle.item_classes.specs.Items.{item_at, no_item}
+use Rattle.view_tokens.proofs.Rows.{in_row, row_token}
+use Rattle.view_tokens.proofs.row.RowTokens.extent.Goals as goal
+
+pub number-requires : goal.number-requires
+number-requires c = (in_row c.self.inside.arena.now c.self.inside.first c.self.inside.apart c.self.inside.marks.now c.self.inside.count c.args.self.now (sym c.self.view_is) c.self.invariant c.args.at c.requires).item
+
+pub returns-clause-rows : goal.returns-clause-rows
+returns-clause-rows c =
+    λ d. c.rows-rows.ensures.count no_item ∙ (ap (λ i. (item_at c.self.inside.arena.now i).rows) c.number.ensures.is ∙ sym (ap (λ (t : LineTok). t.rows) (row_token c.self.inside.arena.now c.self.inside.first c.self.inside.apart c.self.inside.marks.now c.self.inside.count c.args.self.now (sym c.self.view_is) c.self.invariant c.args.at d c.requires)))
+
+pub returns-clause-first : goal.returns-clause-first
+returns-clause-first c =
+    λ d. c.rows-rows.ensures.first no_item ∙ (ap (λ i. (item_at c.self.inside.arena.now i).first_width) c.number.ensures.is ∙ sym (ap (λ (t : LineTok). t.first_width) (row_token c.self.inside.arena.now c.self.inside.first c.self.inside.apart c.self.inside.marks.now c.self.inside.count c.args.self.now (sym c.self.view_is) c.self.invariant c.args.at d c.requires)))
+
+pub returns-clause-last : goal.returns-clause-last
+returns-clause-last c =
+    λ d. c.rows-rows.ensures.last no_item ∙ (ap (λ i. (item_at c.self.inside.arena.now i).last_width) c.number.ensures.is ∙ sym (ap (λ (t : LineTok). t.last_width) (row_token c.self.inside.arena.now c.self.inside.first c.self.inside.apart c.self.inside.marks.now c.self.inside.count c.args.self.now (sym c.self.view_is) c.self.invariant c.args.at d c.requires)))
