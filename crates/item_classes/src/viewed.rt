@@ -2,6 +2,7 @@
 
 ghost use Rattle.std.specs.Prelude.{◌≡◌, ◌<◌, ◌≤◌, ℕ, List, length, IfOk, IsTrue};
 ghost use Rattle.std.specs.List.{list_all};
+ghost use Rattle.c_chars.specs.declared.Dialect.{Dialect};
 ghost use Rattle.c_chars.specs.declared.TheConstants.{LIMIT};
 ghost use Rattle.item_kinds.specs.declared.ItemKind.{ItemKind};
 ghost use Rattle.c_grammar.specs.Rewritten.{read_alone};
@@ -37,6 +38,15 @@ fn class_of_punctuator(
     Ok(punctuator_class(spelled))
 }
 
+/// The class of a word that is spelled by its bytes as they are.
+#[inline(always)]
+fn class_of_plain_word(raw: &[u8]) -> TokenClass
+    requires { IsTrue (list_all is_itself raw.now) }
+    ensures { (dialect : Dialect) → result ≡ class_spelled ItemKind.Identifier (read_alone dialect raw.now) }
+{
+    word_class(raw)
+}
+
 /// The class of a word that may not be spelled by its bytes as they are, as where a splice stands in it.
 #[inline(never)]
 fn class_of_read_word(dialect: Dialect, raw: &[u8], run: &Bump) -> Result<TokenClass, NoMemory>
@@ -44,23 +54,6 @@ fn class_of_read_word(dialect: Dialect, raw: &[u8], run: &Bump) -> Result<TokenC
 {
     let spelled = spelling(dialect, raw, run)?;
     Ok(word_class(spelled))
-}
-
-/// The class of a word, which is known to be spelled by its bytes as they are, or isn't.
-#[inline(always)]
-fn class_of_word(
-    dialect: Dialect,
-    raw: &[u8],
-    itself: bool,
-    run: &Bump,
-) -> Result<TokenClass, NoMemory>
-    requires { IsTrue itself → IsTrue (list_all is_itself raw.now) }
-    ensures { IfOk result (λ class. class ≡ class_spelled ItemKind.Identifier (read_alone dialect raw.now)) }
-{
-    if itself {
-        return Ok(word_class(raw));
-    }
-    class_of_read_word(dialect, raw, run)
 }
 
 /// The class of an item that is neither a word nor a punctuator. Apart, so that the kinds of most items are told by
@@ -95,7 +88,8 @@ pub fn item_class(
     let token = arena.get(id);
     let raw = token.item.raw;
     let class = match token.item.kind {
-        ItemKind::Identifier => class_of_word(arena.dialect(), raw, arena.is_itself(id), run)?,
+        ItemKind::Identifier if arena.is_itself(id) => class_of_plain_word(raw),
+        ItemKind::Identifier => class_of_read_word(arena.dialect(), raw, run)?,
         ItemKind::Punct => class_of_punctuator(arena.dialect(), raw, arena.is_itself(id), run)?,
         kind => class_of_kind(kind),
     };

@@ -7,3 +7,5 @@ pub mod ListedLemmas
 pub mod FirstTold
 pub mod Sixteen
 pub mod QuietRuns
+pub mod SmallLetters
+pub mod ShortWords

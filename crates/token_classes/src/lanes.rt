@@ -9,7 +9,7 @@ use crate::TokenClass;
 use std::simd::prelude::*;
 
 /// So many tokens are told at once.
-const LANES: usize = 16;
+pub const LANES: usize = 16;
 
 /// Which class it is, as they are listed.
 #[inline(always)]
@@ -19,9 +19,10 @@ fn number_of(class: TokenClass) -> u8
     class as u8
 }
 
-/// Which classes sixteen tokens have.
+/// Which classes sixteen tokens have, each by its place in the list of classes. Who compares these tells sixteen tokens
+/// at once.
 #[inline(always)]
-fn numbers(classes: &[TokenClass; LANES]) -> u8x16
+pub fn numbers(classes: &[TokenClass; LANES]) -> u8x16
     ensures { result ≡ map number_of classes.now }
 {
     u8x16::from_array([

@@ -8,6 +8,7 @@ ghost use Rattle.token_classes.specs.declared.class.TokenClass.TheVariants.{Othe
 
 use crate::class::TokenClass;
 use crate::listed::candidate;
+use std::simd::prelude::*;
 
 /// The class in the first row with this spelling, and `other` where none has it.
 #[inline(always)]
@@ -22,12 +23,34 @@ fn class_in(rows: &[(&[u8], TokenClass)], spelled: &[u8], other: TokenClass) -> 
     other
 }
 
-/// Whether it has a small letter.
+/// Whether one of eight characters is a small letter.
+#[inline(always)]
+fn has_small_in_eight(eight: u8x8) -> bool
+    ensures { result ≡ list_any is_ascii_lowercase eight }
+{
+    let from_a = eight - u8x8::splat(b'a');
+    from_a.simd_lt(u8x8::splat(26)).to_bitmask() != 0
+}
+
+/// Whether one of these characters is a small letter, looked at one after another.
+#[inline(always)]
+fn has_small_in_few(spelled: &[u8]) -> bool
+    ensures { result ≡ list_any is_ascii_lowercase spelled.now }
+{
+    spelled.iter().any(|b| b.is_ascii_lowercase())
+}
+
+/// Whether it has a small letter. The first eight characters are looked at at once.
 #[inline(always)]
 fn has_small_letter(spelled: &[u8]) -> bool
     ensures { result ≡ list_any is_ascii_lowercase spelled.now }
 {
-    spelled.iter().any(|b| b.is_ascii_lowercase())
+    match spelled.split_first_chunk::<8>() {
+        Some((eight, rest)) => {
+            has_small_in_eight(u8x8::from_array(*eight)) || has_small_in_few(rest)
+        }
+        None => has_small_in_few(spelled),
+    }
 }
 
 /// Whether it has two characters and no small letter.
@@ -64,13 +87,13 @@ fn named_class(spelled: &[u8]) -> TokenClass
 }
 
 /// The class of a word that is spelled so (C11 6.4.1, and docs/PROFILE.md, "Statements and lines"). It is compared with
-/// the only word of the language that it can be.
+/// the only word of the language that it can be. One of a single character is none of these.
 #[inline(always)]
 pub fn word_class(spelled: &[u8]) -> TokenClass
     ensures { result ≡ word_class spelled.now }
 {
-    if spelled.is_empty() {
-        return named_class(spelled);
+    if spelled.len() < 2 {
+        return TokenClass::PlainWord;
     }
     let (word, class) = candidate(spelled);
     if spelled == word {

@@ -19,7 +19,5 @@ pub mod BodyRows
 pub mod GroupsPassed
 pub mod QuietPassed
 pub mod ReadItems
-pub mod FirstTold
 pub mod FlatTokens
-pub mod Sixteen
 pub mod OpenGroups

@@ -19,7 +19,7 @@ ghost use Rattle.part_walk.specs.Steps.{ends_before_brace, opens_group};
 
 use crate::groups::group_len;
 use crate::known::PartsEnd;
-use crate::lanes::{LANES, flat_count, quiet_behind_label, quiet_in_body, quiet_in_group};
+use crate::lanes::{flat_count, quiet_behind_label, quiet_in_body, quiet_in_group};
 use crate::row::{Row, item_at};
 use bumpalo::Bump;
 use line_tokens::{NoMemory, TokenId};
@@ -28,7 +28,7 @@ use part_walk::{
     opens_group, place_behind, read, start,
 };
 use token_arena::{TokenArena, View};
-use token_classes::TokenClass;
+use token_classes::{LANES, TokenClass};
 
 /// What parts are read from: a view of a text.
 #[derive(Clone, Copy)]
@@ -236,6 +236,11 @@ fn pass_quiet(
         return Some(id);
     }
     let all = source.classes;
+    // Behind what tells something often stands what does too. So the next token is asked alone at first, by one test:
+    // as in a body, where more tokens tell something than in a group.
+    if !is_quiet(Around::Body, false, all[id.0 as usize]) {
+        return Some(id);
+    }
     let held = walk.last.held > 0;
     let quiet = quiet_from(around, held, all, first, walk.place, row);
     if quiet == 0 {
@@ -299,9 +304,6 @@ fn closing_len(classes: &[TokenClass], most: usize) -> Option<usize>
     None
 }
 
-/// Up to so many items are looked at behind an opener. So brackets that nothing closes take no more than that each.
-const MOST_IN_GROUP: usize = 64;
-
 /// The bracket that closes a `(` or `[` at a place of a part, and how many items stand behind that up to it, where
 /// nothing but quiet tokens and such groups stands between them in its row.
 #[inline(always)]
@@ -326,8 +328,7 @@ fn passed_group(
     }
     let shift = row.shift as usize;
     let next = (first + place) as usize + 1 + shift;
-    let most = (row.end as usize + shift - next).min(MOST_IN_GROUP);
-    let len = group_len(opener, &all[next..], most)?;
+    let len = group_len(opener, &all[next..], row.end as usize + shift - next)?;
     let closer = all[next + len - 1];
     Some((closer, len as u32))
 }

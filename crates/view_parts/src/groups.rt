@@ -10,9 +10,9 @@ ghost use Rattle.view_parts.specs.Quiet.{ClosesGroup, closes_group, is_quiet, is
 ghost use Rattle.view_parts.specs.Quiet.{kinds_behind, kinds_in, stands_in};
 
 use crate::ends::is_quiet;
-use crate::lanes::{LANES, quiet_in_group};
+use crate::lanes::quiet_in_group;
 use part_walk::Around;
-use token_classes::TokenClass;
+use token_classes::{LANES, TokenClass};
 
 /// The brackets that are open: so many `(`, and whether a `[` in the innermost of them.
 #[derive(Clone, Copy, Drop)]
@@ -140,13 +140,15 @@ fn deep_group_len(opener: TokenClass, classes: &[TokenClass], most: usize) -> Op
     None
 }
 
+/// Up to so many items are looked at behind an opener. So brackets that nothing closes take no more than that each.
+const MOST_IN_GROUP: usize = 64;
+
 /// How many of these tokens stand up to the bracket that closes the `(` or `[` before them, if it is among so many and
 /// nothing but quiet tokens and groups stands before it. Most groups have no others in them.
 #[inline(always)]
 pub(crate) fn group_len(opener: TokenClass, classes: &[TokenClass], most: usize) -> Option<usize>
     requires opens { opens_group opener ≡ true }
     requires most { most ≤ length classes.now }
-    requires few { most < 2 ^ 32 }
     ensures within { IfSome result (λ len. len ≤ most) }
     ensures some { IfSome result (λ len. 0 < len) }
     ensures closes { IfSome result (λ len. ClosesGroup (opener ∷ []) (take len classes.now)) }
@@ -154,5 +156,5 @@ pub(crate) fn group_len(opener: TokenClass, classes: &[TokenClass], most: usize)
     if let Some(len) = flat_group_len(opener, classes, most) {
         return Some(len);
     }
-    deep_group_len(opener, classes, most)
+    deep_group_len(opener, classes, most.min(MOST_IN_GROUP))
 }

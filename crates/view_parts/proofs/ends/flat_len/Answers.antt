@@ -1,6 +1,6 @@
 use Rattle.std.proofs.Common.{arith}
 use Rattle.view_parts.specs.Lanes.{is_flat}
-use Rattle.view_parts.proofs.FirstTold.{first_few, first_pass}
+use Rattle.token_classes.proofs.FirstTold.{first_few, first_pass}
 use Rattle.view_parts.proofs.ends.flat_len.Goals as goal
 
 pub returns-in-Some-clause-within : goal.returns-in-Some-clause-within

@@ -10,6 +10,11 @@ use Rattle.view_parts.proofs.ends.pass_quiet.Goals as goal
 pub quiet_from-quiet-requires-clause-within : goal.quiet_from-quiet-requires-clause-within
 quiet_from-quiet-requires-clause-within c = row_stored c.args.source.now.view.now (c.args.first + c.args.walk.now.place) (length c.args.source.now.classes.now) c.item_at-id.new.row c.requires.items c.item_at-id.ensures.some c.item_at-id.ensures.row
 
+pub bounds-all-id : goal.bounds-all-id
+bounds-all-id c =
+    let stored = row_stored c.args.source.now.view.now (c.args.first + c.args.walk.now.place) (length c.args.source.now.classes.now) c.item_at-id.new.row c.requires.items c.item_at-id.ensures.some c.item_at-id.ensures.row in
+    omega (arith, stored, c.item_at-id.ensures.shift, c.item_at-id.ensures.some)
+
 pub overflow_add-last : goal.overflow_add-last
 overflow_add-last c =
     let stored = row_stored c.args.source.now.view.now (c.args.first + c.args.walk.now.place) (length c.args.source.now.classes.now) c.item_at-id.new.row c.requires.items c.item_at-id.ensures.some c.item_at-id.ensures.row in
@@ -30,6 +35,20 @@ none_id id e = cc
 
 pub returns-then-may_end : goal.returns-then-may_end
 returns-then-may_end c =
+    let at = c.item_at-id.ensures in
+    record {
+      row = at.row;
+      some = at.some;
+      place = omega arith;
+      within = omega (arith, at.some);
+      quiet = none_passed c.args.source.now.classes.now c.args.around c.args.walk.now _;
+      behind = λ none. absurd (none_id _ none);
+      below = λ next is. at.some;
+      item = λ next is. ap (λ (id : TokenId). id.0) (sym (some_is _ _ is)) ∙ at.shift;
+    }
+
+pub returns-then-not-is_quiet : goal.returns-then-not-is_quiet
+returns-then-not-is_quiet c =
     let at = c.item_at-id.ensures in
     record {
       row = at.row;

@@ -2,7 +2,7 @@ use Rattle.std.proofs.Common.{◌∙◌, sym, ap, arith}
 use Rattle.std.proofs.lemmas.List.{get_or-take, length-take-le}
 use Rattle.token_classes.specs.declared.class.TokenClass.{TokenClass}
 use Rattle.view_parts.specs.Quiet.{is_quiet}
-use Rattle.view_parts.proofs.FirstTold.{first_pass}
+use Rattle.token_classes.proofs.FirstTold.{first_pass}
 use Rattle.view_parts.proofs.ends.quiet_count.Goals as goal
 
 pub returns-in-Some-clause-quiet : goal.returns-in-Some-clause-quiet

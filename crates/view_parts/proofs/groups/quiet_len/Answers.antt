@@ -1,7 +1,7 @@
 use Rattle.std.proofs.Common.{false, arith}
 use Rattle.part_walk.specs.declared.walk.Around.TheVariants.{Group}
 use Rattle.view_parts.specs.Quiet.{is_quiet}
-use Rattle.view_parts.proofs.FirstTold.{first_few, first_pass}
+use Rattle.token_classes.proofs.FirstTold.{first_few, first_pass}
 use Rattle.view_parts.proofs.groups.quiet_len.Goals as goal
 
 pub returns-in-Some-clause-within : goal.returns-in-Some-clause-within

@@ -3,8 +3,9 @@ use Rattle.std.proofs.lemmas.List.{length-map}
 use Rattle.std.proofs.lemmas.Simd.{splat_is_map, zip2_of_maps, zip2_splat}
 use Rattle.token_classes.specs.declared.class.TokenClass.{TokenClass}
 use Rattle.token_classes.specs.declared.class.TokenClass.TheVariants.{OpenBrace, CloseBrace}
-use Rattle.view_parts.specs.Lanes.{is_flat, number_of}
-use Rattle.view_parts.proofs.FirstTold.{none_told, some_told}
+use Rattle.token_classes.specs.Lanes.{number_of}
+use Rattle.view_parts.specs.Lanes.{is_flat}
+use Rattle.token_classes.proofs.FirstTold.{none_told, some_told}
 use Rattle.view_parts.proofs.lanes.flat_count.Goals as goal
 
 tells : ℕ → Bool

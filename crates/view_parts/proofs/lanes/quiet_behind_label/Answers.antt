@@ -4,9 +4,9 @@ use Rattle.std.proofs.lemmas.Simd.{splat_is_map, zip2_of_maps, zip2_splat}
 use Rattle.token_classes.specs.declared.class.TokenClass.{TokenClass}
 use Rattle.token_classes.specs.declared.class.TokenClass.TheVariants.{Semicolon, If, Else, For, While, Do, Switch, Case, Default, Struct, Union, OpenRound, CloseRound, OpenSquare, CloseSquare, OpenBrace, CloseBrace, LineComment, BlockComment}
 use Rattle.part_walk.specs.declared.walk.Around.TheVariants.{Body}
-use Rattle.view_parts.specs.Lanes.{number_of}
+use Rattle.token_classes.specs.Lanes.{number_of}
 use Rattle.view_parts.specs.Quiet.{is_quiet}
-use Rattle.view_parts.proofs.FirstTold.{none_told, some_told}
+use Rattle.token_classes.proofs.FirstTold.{none_told, some_told}
 use Rattle.view_parts.proofs.lanes.quiet_behind_label.Goals as goal
 
 tells : ℕ → Bool
