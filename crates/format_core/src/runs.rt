@@ -65,8 +65,23 @@ struct Made<'a> {
     tally: Tally<'a>,
 }
 
+/// A part of so many items or more has room of its own.
+const LARGE_PART: u32 = 8192;
+
+/// So many bytes of such room are asked for at once for each item.
+const ROOM_OF_AN_ITEM: usize = 128;
+
+/// Room for a part of so many items. It is of one piece, where there is as much memory: so what is given back serves
+/// again within the part, and what grows needn't be copied elsewhere. What isn't filled isn't touched.
+fn room_for(items: u32, alloc: Global) -> Bump {
+    match Bump::try_with_capacity(alloc, items as usize * ROOM_OF_AN_ITEM) {
+        Ok(room) => room,
+        Err(_) => Bump::new(alloc),
+    }
+}
+
 /// Decides the gaps of these items, where they are open: first those that stay as they are.
-fn lay_out_items(
+fn lay_out_in_room(
     context: &Context<'_>,
     number: u32,
     view: &View<'_>,
@@ -106,6 +121,31 @@ fn lay_out_items(
         &mut made.tally,
         run,
     )
+}
+
+/// Decides the gaps of these items, where they are open. Many items have room of their own, others this one.
+fn lay_out_items(
+    context: &Context<'_>,
+    number: u32,
+    view: &View<'_>,
+    made: &mut Made<'_>,
+    room: &Bump,
+) -> Result<(), NoMemory>
+    requires ready { IsReady context.now }
+    requires within { AreWithin context.now.arena.now view.now }
+    requires made { IsMade context.now.arena.now made.old }
+    requires room { made.old.tally.searched + length view.now < 2 ^ 60 }
+    ensures told { OnOk result (AreItemsTold context.now.style.now context.now.budget context.now.arena.now number
+        made.old.plan view.now made.new.plan made.old.tally made.new.tally) }
+    ensures made { OnOk result (IsMade context.now.arena.now made.new) }
+    ensures room { OnOk result (made.new.tally.searched ≤ made.old.tally.searched + length view.now) }
+{
+    let count = view.len();
+    if count < LARGE_PART {
+        return lay_out_in_room(context, number, view, made, room);
+    }
+    let own = room_for(count, context.alloc);
+    lay_out_in_room(context, number, view, made, &own)
 }
 
 /// Decides the gaps of a part of a view that begins with this item, from one place to before another, where they are
@@ -168,6 +208,21 @@ struct Turn<'k> {
     later: bool,
 }
 
+/// Empties the room of a part or a run for the next one.
+#[inline(always)]
+fn clear(room: &mut Bump, alloc: Global) {
+    if room.reset().is_err() {
+        *room = Bump::new(alloc);
+    }
+}
+
+/// Empties the room in which the end of a part of so many items was looked for, where they are many.
+fn clear_behind(items: u32, room: &mut Bump, alloc: Global) {
+    if items >= LARGE_PART {
+        clear(room, alloc);
+    }
+}
+
 /// Decides the gaps of the next part of a window, where they are open, or passes over parts that are noted in a row.
 /// Where the window doesn't tell where the part ends, the result is none.
 fn lay_out_next<'k>(
@@ -177,7 +232,7 @@ fn lay_out_next<'k>(
     known: &mut KnownParts<'k>,
     made: &mut Made<'_>,
     way: &mut Way<'k>,
-    room: &Bump,
+    room: &mut Bump,
 ) -> Result<Option<PartsEnd<'k>>, NoMemory>
     requires ready { IsReady context.now }
     requires within { AreWithin context.now.arena.now window.now.view }
@@ -237,19 +292,12 @@ fn lay_out_next<'k>(
     if part.told.is_none() && window.end < arena.len() {
         return Ok(None);
     }
+    clear_behind(part.end.saturating_sub(first), room, context.alloc);
     lay_out_part(
         context, window, id, inside, first, part.end, made, begun, room,
     )?;
     pass_part(arena, id, part, &mut known.ends, way);
     Ok(Some(part))
-}
-
-/// Empties the room of a part or a run for the next one.
-#[inline(always)]
-fn clear(room: &mut Bump, alloc: Global) {
-    if room.reset().is_err() {
-        *room = Bump::new(alloc);
-    }
 }
 
 /// Goes over a window from part to part, up to the first one that begins behind what is new. Where the window doesn't

@@ -2,6 +2,7 @@
 use Rattle.std.proofs.Common.{◌≡◌, ℕ, ◌+◌, ◌*◌, ◌^◌, ◌<◌, ◌≤◌, Bool, true, false, List, [], ◌∷◌, ◌++◌, length}
 use Rattle.std.proofs.Common.{length-append, reverse, Some, None, Result, Ok, Err, IfOk, ◌-◌, refl, arith, sym, ◌∙◌, ap}
 use Rattle.std.proofs.Common.{subst}
+use Rattle.std.proofs.lemmas.List.{nil_from_length}
 use Rattle.statement_lines.specs.declared.token.CodeToken.{CodeToken}
 use Rattle.statement_lines.specs.declared.line.Line.{Line}
 use Rattle.statement_lines.specs.declared.braces.Braces.{Braces}
@@ -14,10 +15,10 @@ use Rattle.statement_lines.specs.declared.tree.Place.{Place}
 use Rattle.statement_lines.specs.declared.form.Next.{Next}
 use Rattle.statement_lines.specs.declared.form.Next.TheVariants.{Ends, Goes, Waits, Opens}
 use Rattle.statement_lines.specs.Forms.{IsLow, StaysIn, form_of}
-use Rattle.statement_lines.specs.Tree.{settled, Reading, line_of, head_lines, body_of, whole_file}
+use Rattle.statement_lines.specs.Tree.{settled, Reading, line_of, lines_of, head_lines, body_of, whole_file}
 use Rattle.statement_lines.specs.Stack.{left, form_lines, GoesBehind, Stands, LeavesOpen}
 use Rattle.statement_lines.proofs.Lists.{reverse_snoc}
-use Rattle.statement_lines.proofs.StackLemmas.{begins, stands_ends, stands_goes, stands_waits, stands_opens}
+use Rattle.statement_lines.proofs.StackLemmas.{begins, ends, stands_ends, stands_goes, stands_waits, stands_opens}
 use Rattle.statement_lines.proofs.StackLemmas.{stands_leaves, leaves, left_some, fits_within}
 
 put : (braces : Braces) (tokens : List CodeToken) (out out' : List Line) (os os' : List Open) (start : Start) (at : ℕ)
@@ -201,6 +202,14 @@ pub at_start : (braces : Braces) (tokens : List CodeToken) (out : List Line) (st
 at_start braces tokens out stack0 stack1 o none empty whole pushed =
     let one : whole_file tokens ∷ [] ≡ reverse stack1 = cc in
     put braces tokens [] out (whole_file tokens ∷ []) (reverse stack1) Fresh 0 (sym none) one (begins braces tokens)
+
+-- ## The end
+
+pub all_read : (braces : Braces) (tokens : List CodeToken) (out : List Line) (stack : List Open) (start : Start) (at : ℕ)
+    → length stack ≡ 0 → Stands braces tokens out (reverse stack) start at → out ≡ lines_of braces tokens
+all_read braces tokens out stack start at none s =
+    let e : reverse stack ≡ [] = ap reverse (nil_from_length stack none) in
+    (ends braces tokens out start at (put braces tokens out out (reverse stack) [] start at refl e s)).0
 
 -- ## The innermost list
 

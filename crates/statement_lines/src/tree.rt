@@ -19,9 +19,6 @@ use crate::token::CodeTokens;
 use bumpalo::Bump;
 use line_tokens::{LineKind, NoMemory};
 
-/// So many tokens or more stand in a line of most texts.
-const TOKENS_IN_A_LINE: usize = 4;
-
 /// What begins at a place.
 #[derive(Clone, Copy, Drop)]
 pub struct Place {
@@ -313,8 +310,10 @@ pub fn tree_lines<'r>(
     ensures same { IfOk result (λ r. r.items ≡ lines_of braces.now tokens.now) }
     ensures cut { IfOk result (λ r. IsCut 0 (length tokens.now) r.items) }
 {
-    let mut out = Vec::with_capacity(run, tokens.count() / TOKENS_IN_A_LINE)?;
-    let mut stack = Vec::new(run);
+    // Each line has a token and opens one list at most, so there is room for all. What isn't filled isn't touched.
+    let count = tokens.count();
+    let mut out = Vec::with_capacity(run, count)?;
+    let mut stack = Vec::with_capacity(run, count + 1)?;
     push_open(&mut stack, whole_file(tokens))?;
     let mut place = Place {
         start: Start::Fresh,

@@ -91,9 +91,9 @@ fn entries_of<'a>(bump: &'a Bump, text: &[u8], dialect: Dialect) -> Result<Kept<
         AreEntries text.now dialect kept.entries.now kept.comments.now kept.hashes.now) }
     ensures fault { IfErr result (IsCause dialect text.now) }
 {
-    // Few texts have more items than this, and memory that holds none is never touched.
-    let mut entries = Vec::with_capacity(bump, text.len() / 2)?;
-    let mut comments = Vec::new(bump);
+    // Each item has a byte at least, and a comment has two. Memory that holds none is never touched.
+    let mut entries = Vec::with_capacity(bump, text.len())?;
+    let mut comments = Vec::with_capacity(bump, text.len() / 2)?;
     let mut hashes = Vec::new(bump);
     let mut lexer = Lexer::new(text, dialect);
     loop {

@@ -21,7 +21,7 @@ use Rattle.statement_lines.specs.declared.braces.Braces.{Braces}
 use Rattle.unwrapped_lines.specs.Comments.{Tree, begins_from, no_marks, begin_of, is_apart, is_own, own_level, run_of}
 use Rattle.unwrapped_lines.specs.Lines.{lines_between}
 use Rattle.statement_lines.specs.Tree.{lines_of, end_level}
-use Rattle.unwrapped_lines.specs.Viewed.{colon_touches, parts_of}
+use Rattle.unwrapped_lines.specs.Viewed.{colon_touches, numbers_of, parts_of}
 use Rattle.item_classes.specs.Part.{part_of}
 
 -- ## Tokens that are no comments
@@ -50,6 +50,13 @@ is_usual Colon = false
 is_usual LineComment = false
 is_usual BlockComment = false
 is_usual _ = true
+
+-- these are their classes, their partners and how many of them stand before each place, where there are comments
+pub record AreJoined (classes : List TokenClass) (partners : List (Option ℕ)) (comments : List ℕ)
+    (kept : List TokenClass) (kept_partners : List (Option ℕ)) (numbers : List ℕ) : Type 0 where
+  pub by_class : nat_eq (length comments) 0 ≡ false → kept ≡ code_classes classes
+  pub by_partner : nat_eq (length comments) 0 ≡ false → kept_partners ≡ code_partners classes partners
+  pub by_number : nat_eq (length comments) 0 ≡ false → numbers ≡ numbers_of classes
 
 -- ## Comments
 

@@ -1,7 +1,7 @@
 //! The lines of a view with its comments.
 
 ghost use Rattle.std.specs.Prelude.{◌≡◌, ◌<◌, ◌≤◌, ◌+◌, ◌-◌, ◌^◌, ◌∷◌, ◌++◌, ◌&&◌, length, slice_get, ℕ, false, IfOk};
-ghost use Rattle.std.specs.Prelude.{IfSome, List};
+ghost use Rattle.std.specs.Prelude.{IfSome, List, []};
 ghost use Rattle.unwrapped_lines.specs.declared.part.Begin.{Begin};
 ghost use Rattle.unwrapped_lines.specs.declared.part.ViewComment.{ViewComment};
 ghost use Rattle.unwrapped_lines.specs.Comments.{token_follows, between_at, begins_from, no_marks, list_of};
@@ -424,23 +424,23 @@ fn begin_line(
     Ok(current)
 }
 
-/// The lines of a view that has so many places and these comments.
+/// The lines of a view that has so many places and these comments, put where none are yet.
 pub fn comment_lines<'r>(
     lines: &[Line],
     total: usize,
     end_level: u32,
     comments: &[ViewComment],
     count: usize,
-    run: &'r Bump,
+    room: Vec<ULine, &'r Bump>,
 ) -> Result<Vec<ULine, &'r Bump>, NoMemory>
-    requires { count < 2 ^ 32 }
+    requires few { count < 2 ^ 32 }
+    requires none { room.items ≡ [] }
     ensures { IfOk result (λ r.
         r.items
         ≡ lines_between count (begins_from (record { lines = lines.now; total = total; end_level = end_level })
         (parts_with count 0 comments.now) 0 no_marks)) }
 {
-    // Each comment begins one line more at most.
-    let mut out = Vec::with_capacity(run, lines.len().saturating_add(comments.len()))?;
+    let mut out = room;
     let mut walk = Walk {
         index: 0,
         marks: Marks {

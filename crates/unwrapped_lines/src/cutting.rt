@@ -1,6 +1,6 @@
 //! The unwrapped lines of a view.
 
-ghost use Rattle.std.specs.Prelude.{◌≡◌, ◌<◌, ◌≤◌, ◌^◌, List, length, map, IfOk};
+ghost use Rattle.std.specs.Prelude.{◌≡◌, ◌<◌, ◌≤◌, ◌^◌, List, [], length, map, IfOk};
 ghost use Rattle.c_chars.specs.declared.TheConstants.{LIMIT};
 ghost use Rattle.item_classes.specs.Viewed.{AreWithin, classes_of};
 ghost use Rattle.line_tokens.specs.Lines.{CutPlaces};
@@ -14,7 +14,7 @@ ghost use Rattle.unwrapped_lines.specs.Viewed.{code_places_from, parts_of};
 ghost use Rattle.statement_lines.specs.declared.line.Line.{Line};
 
 use crate::comments::comment_lines;
-use crate::viewed::{ViewTokens, read_view};
+use crate::viewed::{ViewTokens, read_view, view_tokens};
 use bumpalo::Bump;
 use bumpalo::collections::into_bump_slice;
 use line_tokens::{NoMemory, ULine};
@@ -23,11 +23,16 @@ use style_table::Style;
 use token_arena::{TokenArena, View};
 use token_classes::{Partner, TokenClass};
 
-/// The lines of a view without comments: the number of a token is its place.
-fn token_lines<'r>(lines: &[Line], run: &'r Bump) -> Result<Vec<ULine, &'r Bump>, NoMemory>
+/// Puts the lines of a view without comments where none are yet: the number of a token is its place.
+fn token_lines<'r>(
+    lines: &[Line],
+    room: Vec<ULine, &'r Bump>,
+) -> Result<Vec<ULine, &'r Bump>, NoMemory>
+    requires { room.items ≡ [] }
     ensures { IfOk result (λ view. view.items ≡ map view_line lines.now) }
 {
-    let mut view_lines = Vec::with_capacity(run, lines.len())?;
+    let mut view_lines = room;
+    view_lines.reserve(lines.len())?;
     for line in lines {
         view_lines.push_reserved(ULine {
             first: line.first,
@@ -68,7 +73,7 @@ fn level_behind(
     end_level(braces, tokens, colons, run)
 }
 
-/// The lines of a view that has these tokens and comments.
+/// The lines of a view that has these tokens and comments, put where none are yet.
 #[inline(always)]
 fn lines_of_read<'r>(
     braces: &Braces,
@@ -76,8 +81,10 @@ fn lines_of_read<'r>(
     view: &View<'_>,
     classes: &[TokenClass],
     read: &ViewTokens<'_>,
-    run: &'r Bump,
+    room: Vec<ULine, &'r Bump>,
+    run: &Bump,
 ) -> Result<Vec<ULine, &'r Bump>, NoMemory>
+    requires none { room.items ≡ [] }
     requires classes { classes.now ≡ classes_of arena.now view.now }
     requires few { length classes.now ≤ LIMIT }
     requires few_tokens { length read.now.tokens ≤ LIMIT }
@@ -91,16 +98,15 @@ fn lines_of_read<'r>(
 {
     let tokens = &read.tokens;
     let colons = case_colons(tokens, read.cases, run)?;
-    let colons = into_bump_slice(colons);
-    let tree = tree_lines(braces, tokens, colons, run)?;
-    let tree = into_bump_slice(tree);
+    let tree = tree_lines(braces, tokens, &colons, run)?;
+    let lines = tree.as_slice();
     let count = classes.len();
     let total = tokens.count();
     if total == count {
-        return token_lines(tree, run);
+        return token_lines(lines, room);
     }
-    let level = level_behind(braces, arena, view, classes, tokens, colons, run)?;
-    comment_lines(tree, total, level, read.comments, count, run)
+    let level = level_behind(braces, arena, view, classes, tokens, &colons, run)?;
+    comment_lines(lines, total, level, read.comments, count, room)
 }
 
 /// The lines, and that those of the tokens that are no comments cut these.
@@ -123,8 +129,11 @@ fn read_lines<'r>(
     let items = arena.len();
     prove!(count <= items);
     let braces = braces_of(style);
+    // The lines stand first, and no more than there are places. So what is made behind them serves others later.
+    let room = Vec::with_capacity(run, count as usize)?;
     let read = read_view(arena, view, classes, partners, run)?;
-    lines_of_read(&braces, arena, view, classes, &read, run)
+    let tokens = view_tokens(arena, view, classes, partners, &read);
+    lines_of_read(&braces, arena, view, classes, &tokens, room, run)
 }
 
 /// The unwrapped lines of a view, whose tokens have these classes and whose brackets these partners.

@@ -9,13 +9,12 @@ ghost use Rattle.statement_lines.specs.Tokens.{is_touched};
 ghost use Rattle.unwrapped_lines.specs.Viewed.{colon_touches, numbers_of, code_tokens, parts_of};
 ghost use Rattle.unwrapped_lines.specs.Inside.{code_classes, code_partners, comment_place, comment_places_from};
 ghost use Rattle.unwrapped_lines.specs.Inside.{comments_of};
-ghost use Rattle.unwrapped_lines.specs.Inside.{parts_with, AreNoted, AreTouched};
+ghost use Rattle.unwrapped_lines.specs.Inside.{parts_with, AreJoined, AreNoted, AreTouched};
 ghost use Rattle.c_chars.specs.declared.TheConstants.{LIMIT};
 
 use crate::lanes::usual_len;
 use crate::part::ViewComment;
 use bumpalo::Bump;
-use bumpalo::collections::into_bump_slice;
 use item_classes::{comment_part, item_class};
 use line_tokens::{NoMemory, TokenId};
 use statement_lines::{CodeTokens, Places};
@@ -207,9 +206,9 @@ fn places_of<'r>(comments: &[ViewComment], run: &'r Bump) -> Result<Vec<u32, &'r
 /// Tokens that are no comments, put one behind another, and how many of them stand before each place.
 #[derive(Drop)]
 struct Joined<'r> {
-    classes: Vec<TokenClass, &'r Bump>,
-    partners: Vec<Partner, &'r Bump>,
     numbers: Vec<u32, &'r Bump>,
+    partners: Vec<Partner, &'r Bump>,
+    classes: Vec<TokenClass, &'r Bump>,
 }
 
 /// Appends so many numbers, from one on.
@@ -307,6 +306,73 @@ fn join_tokens<'r>(
     push_stretch(classes, partners, from, classes.len(), joined)
 }
 
+/// What is read of a view. What was made last stands first, so that it is given back first.
+#[derive(Drop)]
+pub(crate) struct ReadView<'r> {
+    /// The tokens that are no comments, where there are comments.
+    joined: Joined<'r>,
+    /// The places of the comments.
+    marked: Vec<u32, &'r Bump>,
+    /// What is noted of the items.
+    noted: Noted<'r>,
+}
+
+/// The tokens beside the comments at these places. Where there are none, nothing is put.
+fn joined_tokens<'r>(
+    classes: &[TokenClass],
+    partners: &[Partner],
+    marked: &[u32],
+    run: &'r Bump,
+) -> Result<Joined<'r>, NoMemory>
+    requires few { length classes.now ≤ LIMIT }
+    requires comments { marked.now ≡ comment_places_from 0 classes.now }
+    ensures { IfOk result (λ joined.
+        AreJoined classes.now partners.now marked.now joined.classes.items joined.partners.items
+        joined.numbers.items) }
+{
+    if marked.is_empty() {
+        return Ok(Joined {
+            numbers: Vec::new(run),
+            partners: Vec::new(run),
+            classes: Vec::new(run),
+        });
+    }
+    let joined = join_tokens(classes, partners, marked, run)?;
+    Ok(joined)
+}
+
+/// Reads a view: its comments, and where it has any the tokens beside them.
+pub(crate) fn read_view<'r>(
+    arena: &TokenArena<'_, '_>,
+    view: &View<'_>,
+    classes: &[TokenClass],
+    partners: &[Partner],
+    run: &'r Bump,
+) -> Result<ReadView<'r>, NoMemory>
+    requires within { AreWithin arena.now view.now }
+    requires places { length classes.now ≡ length view.now }
+    requires few { length classes.now ≤ LIMIT }
+    ensures comments { IfOk result
+        (λ read. read.noted.comments.items ≡ comments_of arena.now view.now classes.now) }
+    ensures touched { IfOk result
+        (λ read. AreTouched arena.now view.now classes.now (length classes.now) read.noted.touched.items) }
+    ensures marked { IfOk result (λ read. read.marked.items ≡ comment_places_from 0 classes.now) }
+    ensures joined { IfOk result (λ read.
+        AreJoined classes.now partners.now read.marked.items read.joined.classes.items read.joined.partners.items
+        read.joined.numbers.items) }
+{
+    let noted = note_items(arena, view, classes, run)?;
+    let comments = noted.comments.as_slice();
+    let marked = places_of(comments, run)?;
+    let places = marked.as_slice();
+    let joined = joined_tokens(classes, partners, places, run)?;
+    Ok(ReadView {
+        joined,
+        marked,
+        noted,
+    })
+}
+
 /// A view's tokens that are no comments, its comments, and which of the tokens are a `case`.
 #[derive(Drop)]
 pub(crate) struct ViewTokens<'v> {
@@ -315,28 +381,30 @@ pub(crate) struct ViewTokens<'v> {
     pub(crate) cases: &'v [usize],
 }
 
-/// The tokens and the comments of a view.
-pub(crate) fn read_view<'v>(
+/// The tokens and the comments of a view that was read.
+pub(crate) fn view_tokens<'v>(
     arena: &'v TokenArena<'v, 'v>,
     view: &'v View<'v>,
     classes: &'v [TokenClass],
     partners: &'v [Partner],
-    run: &'v Bump,
-) -> Result<ViewTokens<'v>, NoMemory>
+    read: &'v ReadView<'_>,
+) -> ViewTokens<'v>
     requires within { AreWithin arena.now view.now }
     requires places { length classes.now ≡ length view.now }
     requires few { length classes.now ≤ LIMIT }
-    ensures tokens { IfOk result (λ read. read.tokens ≡ code_tokens arena.now view.now classes.now partners.now) }
-    ensures few { IfOk result (λ read. length read.tokens ≤ LIMIT) }
-    ensures parts { IfOk result
-        (λ read. parts_with (length view.now) 0 read.comments.now ≡ parts_of arena.now view.now classes.now) }
+    requires comments { read.now.noted.comments.items ≡ comments_of arena.now view.now classes.now }
+    requires touched { AreTouched arena.now view.now classes.now (length classes.now) read.now.noted.touched.items }
+    requires marked { read.now.marked.items ≡ comment_places_from 0 classes.now }
+    requires joined { AreJoined classes.now partners.now read.now.marked.items read.now.joined.classes.items
+        read.now.joined.partners.items read.now.joined.numbers.items }
+    ensures tokens { result.tokens ≡ code_tokens arena.now view.now classes.now partners.now }
+    ensures few { length result.tokens ≤ LIMIT }
+    ensures parts { parts_with (length view.now) 0 result.comments.now ≡ parts_of arena.now view.now classes.now }
 {
-    let noted = note_items(arena, view, classes, run)?;
-    let comments = into_bump_slice(noted.comments);
-    let cases = into_bump_slice(noted.cases);
-    let touched = into_bump_slice(noted.touched);
-    let marked = places_of(comments, run)?;
-    let marked = into_bump_slice(marked);
+    let comments = read.noted.comments.as_slice();
+    let cases = read.noted.cases.as_slice();
+    let touched = read.noted.touched.as_slice();
+    let marked = read.marked.as_slice();
     let places = Places {
         arena,
         view,
@@ -345,20 +413,19 @@ pub(crate) fn read_view<'v>(
     };
     if marked.is_empty() {
         let tokens = CodeTokens::of(classes, partners, &[], places);
-        return Ok(ViewTokens {
+        return ViewTokens {
             tokens,
             comments,
             cases,
-        });
+        };
     }
-    let joined = join_tokens(classes, partners, marked, run)?;
-    let kept = into_bump_slice(joined.classes);
-    let kept_partners = into_bump_slice(joined.partners);
-    let numbers = into_bump_slice(joined.numbers);
+    let kept = read.joined.classes.as_slice();
+    let kept_partners = read.joined.partners.as_slice();
+    let numbers = read.joined.numbers.as_slice();
     let tokens = CodeTokens::of(kept, kept_partners, numbers, places);
-    Ok(ViewTokens {
+    ViewTokens {
         tokens,
         comments,
         cases,
-    })
+    }
 }

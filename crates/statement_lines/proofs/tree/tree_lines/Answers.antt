@@ -1,8 +1,9 @@
-use Rattle.statement_lines.proofs.TurnLemmas.{at_start, less_left, stands_within}
+use Rattle.std.proofs.Common.{◌≡◌, arith, length}
+use Rattle.statement_lines.proofs.TurnLemmas.{all_read, at_start, less_left, stands_within}
 use Rattle.statement_lines.proofs.tree.tree_lines.Goals as goal
 
 pub loop-o-init : goal.loop-o-init
-loop-o-init c = at_start _ _ _ _ _ _ c.in_ok-out.ensures.items c.new-stack.ensures.items c.whole_file.ensures c.in_ok-push_open.ensures.items
+loop-o-init c = at_start _ _ _ _ _ _ c.in_ok-out.ensures.items c.in_ok-stack.ensures.items c.whole_file.ensures c.in_ok-push_open.ensures.items
 
 pub turn-requires-clause-stands : goal.turn-requires-clause-stands
 turn-requires-clause-stands c = stands_within _ _ _ _ _ _ _ _ c.in-Some.ensures.items c.loop-o.invariant
@@ -12,3 +13,8 @@ loop-o-smaller c = less_left _ _ _ _ _ c.in-Some.ensures.items c.in_ok-place.ens
 
 pub loop-o-preserved : goal.loop-o-preserved
 loop-o-preserved c = c.in_ok-place.ensures.stands
+
+pub returns-clause-same : goal.returns-clause-same
+returns-clause-same c =
+    let none : length c.loop-o.stack.items ≡ 0 = omega (arith, c.in_default.ensures.cases.0, c.loop-o.stack.ok.0) in
+    all_read _ _ _ _ _ _ none c.loop-o.invariant

@@ -16,17 +16,17 @@ prove-unreachable-requires c =
     omega (arith, few, c.if-prove.true, c.len-count.ensures.count, c.len-items.ensures.count)
 
 pub lines_of_read-requires-clause-tokens : goal.lines_of_read-requires-clause-tokens
-lines_of_read-requires-clause-tokens c = tokens_read c.args.arena.now c.args.view.now c.args.partners.now c.args.classes.now c.in_ok-read.read.tokens c.in_ok-read.ensures.tokens
+lines_of_read-requires-clause-tokens c = tokens_read c.args.arena.now c.args.view.now c.args.partners.now c.args.classes.now c.view_tokens-tokens.result.tokens c.view_tokens-tokens.ensures.tokens
 
 pub returns-clause-lines : goal.returns-clause-lines
 returns-clause-lines c =
     let arena = c.args.arena.now in
     let view = c.args.view.now in
     let classes = c.args.classes.now in
-    let tokens = c.in_ok-read.read.tokens in
+    let tokens = c.view_tokens-tokens.result.tokens in
     IfOk-weaker c.lines_of_read.result (λ lines. lines.items ≡ lines_with c.braces_of-braces.result arena view classes tokens)
     (λ lines. lines.items ≡ unwrapped_lines_of c.args.style.now arena view c.args.partners.now)
-    (λ lines e. e ∙ lines_read c.args.style.now arena view c.args.partners.now classes tokens c.braces_of-braces.result c.requires.classes c.in_ok-read.ensures.tokens c.braces_of-braces.ensures)
+    (λ lines e. e ∙ lines_read c.args.style.now arena view c.args.partners.now classes tokens c.braces_of-braces.result c.requires.classes c.view_tokens-tokens.ensures.tokens c.braces_of-braces.ensures)
     c.lines_of_read.ensures.lines
 
 pub returns-clause-tree : goal.returns-clause-tree
@@ -34,8 +34,8 @@ returns-clause-tree c =
     let arena = c.args.arena.now in
     let view = c.args.view.now in
     let classes = c.args.classes.now in
-    let tokens = c.in_ok-read.read.tokens in
+    let tokens = c.view_tokens-tokens.result.tokens in
     let tree = tree_of c.args.style.now arena view c.args.partners.now in
     IfOk-weaker c.lines_of_read.result (λ lines. IsCut 0 (length tokens) (lines_of c.braces_of-braces.result tokens)) (λ lines. IsCut 0 tree.total tree.lines)
-    (λ lines cut. cut_read c.args.style.now arena view c.args.partners.now classes tokens c.braces_of-braces.result c.requires.classes c.in_ok-read.ensures.tokens c.braces_of-braces.ensures cut)
+    (λ lines cut. cut_read c.args.style.now arena view c.args.partners.now classes tokens c.braces_of-braces.result c.requires.classes c.view_tokens-tokens.ensures.tokens c.braces_of-braces.ensures cut)
     c.lines_of_read.ensures.tree

@@ -6,7 +6,7 @@ use Rattle.run_parts.specs.KeptGaps.{kept_decisions}
 use Rattle.format_core.proofs.MadeSo.{made_so}
 use Rattle.format_core.proofs.RunsTold.{items_from}
 use Rattle.format_core.proofs.Failed.{not_done}
-use Rattle.format_core.proofs.runs.lay_out_items.Goals as goal
+use Rattle.format_core.proofs.runs.lay_out_in_room.Goals as goal
 
 pub prove-unreachable-requires : goal.prove-unreachable-requires
 prove-unreachable-requires c =
