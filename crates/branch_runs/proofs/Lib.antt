@@ -21,3 +21,4 @@ pub mod Differ
 pub mod Narrow
 pub mod Inside
 pub mod Ascending
+pub mod Effects

@@ -1,14 +1,18 @@
 //! What each section does where it stands, and which items are dead.
 
-ghost use Rattle.std.specs.Prelude.{◌≡◌, ◌<◌, ◌≤◌, ◌+◌, ◌++◌, ◌^◌, [], length, replicate, IfOk};
+ghost use Rattle.std.specs.Prelude.{◌≡◌, ◌<◌, ◌≤◌, ◌+◌, ◌++◌, ◌^◌, [], All, IfOk, length, map, replicate};
+ghost use Rattle.branch_runs.specs.Marks.{mark_of};
+ghost use Rattle.branch_runs.specs.Operands.{IsWithin};
 ghost use Rattle.branch_runs.specs.Reading.{effects, kind_in, open_after};
 ghost use Rattle.branch_runs.specs.Dead.{groups_around, has_zero};
 ghost use Rattle.branch_runs.specs.Flags.{flags_in};
 
+use crate::mark::mark_of;
 use crate::open_groups::OpenGroups;
 use crate::{Mark, MarkKind, NoMemory};
 use bumpalo::Bump;
 use bumpalo::collections::into_bump_slice;
+use token_arena::{Section, TokenArena};
 
 // Adds a flag so many times.
 fn push_flags(flags: &mut Vec<bool, &Bump>, count: u32, flag: bool) -> Result<(), NoMemory>
@@ -33,21 +37,23 @@ fn enter(groups: &mut OpenGroups<'_>, kind: MarkKind) -> Result<(MarkKind, bool)
     Ok((kind, before && after))
 }
 
-/// The marks with what their sections do where they stand, and for each of so many items whether it stands in the
-/// group of a literal `#if 0`.
+/// The marks of sections with what these do where they stand, and for each item whether it stands in the group of a
+/// literal `#if 0`.
 pub(crate) fn effects<'a>(
-    marks: &[Mark],
-    items: u32,
+    arena: &TokenArena<'_, '_>,
+    sections: &[Section],
     bump: &'a Bump,
 ) -> Result<(&'a [Mark], &'a [bool]), NoMemory>
-    requires { length marks.now < 2 ^ 31 }
-    ensures marks { IfOk result (λ r. r.0.now ≡ effects marks.now) }
-    ensures dead { IfOk result (λ r. r.1.now ≡ flags_in [] (effects marks.now)) }
+    requires few { length sections.now < 2 ^ 31 }
+    requires within { All (IsWithin (length arena.now.tokens)) sections.now }
+    ensures marks { IfOk result (λ r. r.0.now ≡ effects (map (mark_of arena.now) sections.now)) }
+    ensures dead { IfOk result (λ r. r.1.now ≡ flags_in [] (effects (map (mark_of arena.now) sections.now))) }
 {
     let mut groups = OpenGroups::new(bump);
-    let mut done = Vec::with_capacity(bump, marks.len())?;
-    let mut flags = Vec::with_capacity(bump, items as usize)?;
-    for mark in marks {
+    let mut done = Vec::with_capacity(bump, sections.len())?;
+    let mut flags = Vec::with_capacity(bump, arena.len() as usize)?;
+    for section in sections {
+        let mark = mark_of(arena, *section);
         let (kind, dead) = enter(&mut groups, mark.kind)?;
         done.push(Mark {
             first: mark.first,

@@ -1,13 +1,10 @@
 //! The sections of a text, as conditionals see them.
 
-ghost use Rattle.std.specs.Prelude.{◌≡◌, All, IfOk, length, map};
+ghost use Rattle.std.specs.Prelude.{◌≡◌, length};
 ghost use Rattle.branch_runs.specs.Marks.{mark_of, kind_by};
 ghost use Rattle.branch_runs.specs.Operands.{IsWithin};
 
-use crate::NoMemory;
 use crate::zero::is_if_zero;
-use bumpalo::Bump;
-use bumpalo::collections::into_bump_slice;
 use token_arena::{Nesting, Section, TokenArena, nesting_of};
 
 /// What a section does to the conditionals that are open.
@@ -70,8 +67,8 @@ fn kind_by(is_zero: bool, nesting: Nesting) -> MarkKind
     }
 }
 
-// The mark of a section.
-fn mark_of(arena: &TokenArena<'_, '_>, section: Section) -> Mark
+/// The mark of a section.
+pub(crate) fn mark_of(arena: &TokenArena<'_, '_>, section: Section) -> Mark
     requires { IsWithin (length arena.now.tokens) section }
     ensures { result ≡ mark_of arena.now section }
 {
@@ -87,20 +84,4 @@ fn mark_of(arena: &TokenArena<'_, '_>, section: Section) -> Mark
             kind: kind_by(is_if_zero(arena, directive), nesting_of(directive.kind)),
         },
     }
-}
-
-/// The marks of sections.
-pub(crate) fn marks_of<'a>(
-    arena: &TokenArena<'_, '_>,
-    sections: &[Section],
-    bump: &'a Bump,
-) -> Result<&'a [Mark], NoMemory>
-    requires { All (IsWithin (length arena.now.tokens)) sections.now }
-    ensures { IfOk result (λ marks. marks.now ≡ map (mark_of arena.now) sections.now) }
-{
-    let mut marks = Vec::with_capacity(bump, sections.len())?;
-    for section in sections {
-        marks.push(mark_of(arena, *section))?;
-    }
-    Ok(into_bump_slice(marks))
 }

@@ -190,7 +190,7 @@ pub(crate) fn seen_texts<'a>(
     ensures ascend { IfOk result (λ texts. AscendFrom 0 (map text_bounds texts.now)) }
     ensures texts { IfOk result (λ texts. texts.now ≡ seen_texts (read (map node_mark nodes.now)) 0 runs) }
 {
-    let mut texts = Vec::new(bump);
+    let mut texts = Vec::with_capacity(bump, nodes.len())?;
     let mut slots = Stack::new(bump);
     let mut place = Place {
         at: 0,

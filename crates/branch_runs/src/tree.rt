@@ -11,11 +11,11 @@ ghost use Rattle.branch_runs.specs.Dead.{is_dead_in};
 ghost use Rattle.branch_runs.specs.Laws.{IsCovered, NeverParted};
 ghost use Rattle.branch_runs.specs.Cut.{IsCutFrom, end_of};
 ghost use Rattle.branch_runs.specs.Anew.{IsChange, items_between};
+ghost use Rattle.branch_runs.specs.Flags.{flags_in};
 
 use crate::change::{Change, changes_of};
 use crate::effect::effects;
 use crate::link::nodes_of;
-use crate::mark::marks_of;
 use crate::node::{Node, end_of};
 use crate::seen::seen_texts;
 use crate::visible::Visible;
@@ -62,25 +62,23 @@ impl<'a> CondTree<'a> {
         ensures covered { IfOk result (λ _. IsCovered (marks_of arena.now)) }
         ensures together { IfOk result (λ _. NeverParted (marks_of arena.now)) }
     {
-        let items = arena.len();
-        let marks = marks_of(arena, sections, bump)?;
-        let tree = CondTree::of_marks(marks, items, bump)?;
+        let _items = arena.len();
+        let (marks, dead) = effects(arena, sections, bump)?;
+        let tree = CondTree::of_effects(marks, dead, bump)?;
         Ok(tree)
     }
 
-    /// Reads the conditionals from the marks of so many items.
-    pub(crate) fn of_marks(
+    // The tree of marks that have what their sections do where they stand, with the flags of their dead items.
+    fn of_effects(
         marks: &[Mark],
-        items: u32,
+        dead: &'a [bool],
         bump: &'a Bump,
     ) -> Result<CondTree<'a>, NoMemory>
-        requires small { length marks.now ≤ items }
-        requires limit { items ≤ LIMIT }
+        requires small { length marks.now ≤ LIMIT }
         requires cut { IsCutFrom 0 marks.now }
-        ensures marks { IfOk result (λ tree. tree ≡ effects marks.now) }
-        ensures end { IfOk result (λ tree. end_of 0 tree ≡ end_of 0 marks.now) }
+        requires dead { dead.now ≡ flags_in [] marks.now }
+        ensures { IfOk result (λ tree. tree ≡ marks.now) }
     {
-        let (marks, dead) = effects(marks, items, bump)?;
         let (nodes, count) = nodes_of(marks, bump)?;
         let texts = seen_texts(nodes, count, bump)?;
         let changes = changes_of(texts, count, bump)?;

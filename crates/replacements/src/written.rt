@@ -48,6 +48,15 @@ struct Walk {
     held: usize,
 }
 
+/// Where items were passed.
+#[derive(Clone, Copy)]
+struct Passed {
+    /// The next item.
+    place: u32,
+    /// Where the gap before it begins.
+    at: usize,
+}
+
 /// What a plan decides for a gap: that it stays, where nothing else is decided.
 #[inline(always)]
 pub(crate) fn decision_at(plan: &Plan<'_>, place: u32) -> Decision
@@ -548,37 +557,40 @@ fn first_offset(arena: &TokenArena<'_, '_>) -> usize
 }
 
 /// Passes items from a place on, which isn't the first, as long as blanks are decided before each and stand there in
-/// the input, so that they are copied in one stretch. The place of the first other item, or behind the last one; `at`
-/// is moved to its gap.
+/// the input, so that they are copied in one stretch. The first other item, or what stands behind the last one.
 #[inline(never)]
-fn pass_blanks(arena: &TokenArena<'_, '_>, plan: &Plan<'_>, place: u32, at: &mut usize) -> u32
+fn pass_blanks(arena: &TokenArena<'_, '_>, plan: &Plan<'_>, place: u32, at: usize) -> Passed
     requires whole { length plan.now ≡ length arena.now.tokens + 1 }
     requires here { place ≤ length arena.now.tokens }
     requires behind { 0 < place }
-    requires at { at.old ≡ gap_start (mark_len arena.now.text) arena.now.tokens place }
-    ensures within { result ≤ length arena.now.tokens }
-    ensures later { place ≤ result }
-    ensures at { at.new ≡ gap_start (mark_len arena.now.text) arena.now.tokens result }
-    ensures on { at.old ≤ at.new }
+    requires at { at ≡ gap_start (mark_len arena.now.text) arena.now.tokens place }
+    ensures within { result.place ≤ length arena.now.tokens }
+    ensures later { place ≤ result.place }
+    ensures at { result.at ≡ gap_start (mark_len arena.now.text) arena.now.tokens result.place }
+    ensures on { at ≤ result.at }
     ensures same { (style : Style) (crlf : Bool) (sections : List Section) →
-        written_from style crlf arena.now sections plan.now (guard_before arena.now.tokens place) at.old place
+        written_from style crlf arena.now sections plan.now (guard_before arena.now.tokens place) at place
         (drop place arena.now.tokens)
-        ≡ bytes_between arena.now.text at.old at.new
-        ++ written_from style crlf arena.now sections plan.now (guard_before arena.now.tokens result) at.new
-        result (drop result arena.now.tokens) }
+        ≡ bytes_between arena.now.text at result.at
+        ++ written_from style crlf arena.now sections plan.now (guard_before arena.now.tokens result.place) result.at
+        result.place (drop result.place arena.now.tokens) }
 {
     let count = arena.len();
-    let mut here = *at;
+    let mut here = at;
     for next in place..count {
         let token = arena.get(TokenId(next));
         if !has_same_blanks(arena, here, next, &token, plan) {
-            *at = here;
-            return next;
+            return Passed {
+                place: next,
+                at: here,
+            };
         }
         here = token.item.start as usize + token.item.raw.len();
     }
-    *at = here;
-    count
+    Passed {
+        place: count,
+        at: here,
+    }
 }
 
 /// Writes all items, and the gaps before and behind them.
@@ -611,7 +623,9 @@ fn write_tokens<K: Sink>(
     let mut place = 0;
     while place < count {
         write_token(style, crlf, arena, sections, plan, &mut walk, place, sink)?;
-        place = pass_blanks(arena, plan, place + 1, &mut walk.at);
+        let passed = pass_blanks(arena, plan, place + 1, walk.at);
+        walk.at = passed.at;
+        place = passed.place;
     }
     write_all(sink, between(arena.text(), walk.held, walk.at))?;
     let decision = decision_at(plan, count);

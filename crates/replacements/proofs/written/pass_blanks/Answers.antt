@@ -16,7 +16,7 @@ loop-next-init c =
       at = c.requires.at;
       later = omega arith;
       on = omega arith;
-      same = λ style crlf sections. held_begun arena.text c.args.at.now (written_from style crlf arena sections c.args.plan.now (guard_before arena.tokens c.args.place) c.args.at.now c.args.place (drop c.args.place arena.tokens));
+      same = λ style crlf sections. held_begun arena.text c.args.at (written_from style crlf arena sections c.args.plan.now (guard_before arena.tokens c.args.place) c.args.at c.args.place (drop c.args.place arena.tokens));
     }
 
 pub has_same_blanks-requires : goal.has_same_blanks-requires
@@ -41,6 +41,6 @@ loop-next-preserved c =
       at = sym start;
       on = omega (arith, c.loop-next.invariant.on, stands.later);
       later = omega (arith, c.loop-next.invariant.later);
-      same = λ style crlf sections. passed_more style crlf arena sections c.args.plan.now at c.loop-next.next c.args.at.now token _ stands c.loop-next.invariant.on c.get-token.ensures
+      same = λ style crlf sections. passed_more style crlf arena sections c.args.plan.now at c.loop-next.next c.args.at token _ stands c.loop-next.invariant.on c.get-token.ensures
           (c.has_same_blanks.ensures (search rules) style crlf) (c.loop-next.invariant.same style crlf sections);
     }
