@@ -202,7 +202,7 @@ fn breaks_of<'r>(
         let Some(step) = trail.pop() else {
             unreachable!()
         };
-        breaks.push(step.brk)?;
+        breaks.push_reserved(step.brk);
     }
     breaks.reverse();
     Ok(breaks)

@@ -38,7 +38,7 @@ pub fn is_same_place(one: &NodeState, other: &NodeState) -> bool
     ensures yes { OnTrue result (IsSamePlace one.now other.now) }
     ensures no { OnFalse result (IsSamePlace one.now other.now → ⊥) }
 {
-    one.index == other.index && one.column == other.column && one.node == other.node
+    one.column == other.column && one.node == other.node && one.index == other.index
 }
 
 /// A number that states of one store and one layout share, and that few others behind as many tokens have.
