@@ -1,7 +1,7 @@
 -- Whether the next trailing comment stands on the next row.
-use Rattle.std.proofs.Common.{◌≡◌, ◌==◌, ℕ, suc, ◌+◌, ◌-◌, ◌<◌, ◌≤◌, Bool, true, false, Option, List, [], ◌∷◌, ◌++◌, Some, None, length, get_or, drop, refl, ap, sym, ◌∙◌, subst, arith}
+use Rattle.std.proofs.Common.{◌≡◌, ◌==◌, ℕ, suc, ◌+◌, ◌-◌, ◌<◌, Bool, true, false, Option, List, [], ◌∷◌, ◌++◌, length, get_or, drop, refl, ap, sym, ◌∙◌, subst, arith}
 use Rattle.std.proofs.Math.Seq.{drop-cons}
-use Rattle.std.specs.Prelude.{IfNone, IfSome, if◌then◌else◌}
+use Rattle.std.specs.Prelude.{if◌then◌else◌}
 use Rattle.std.proofs.lemmas.Bool.Decides.{nat_tests}
 use Rattle.line_tokens.specs.Roles.{is_trailing}
 use Rattle.line_tokens.specs.declared.LineTok.{LineTok}
@@ -37,20 +37,34 @@ next_stops plan tokens after i ended d slot within directive trailing slot_is pa
     by_flags false true one rest a b r = cc
     by_flags false false one rest a b r = r
 
--- what tokens tell, whatever comes behind them, they tell in front of those that do
-pub told_here : (plan : List (Option Slot)) (ended : ℕ) (told : Option Bool) (tokens later all : List LineTok) → all ≡ tokens ++ later
-    → IfSome told (λ next. (xs : List LineTok) → next ≡ is_next plan ended (tokens ++ xs)) → IfSome told (λ next. next ≡ is_next plan ended all)
-told_here plan ended None tokens later all same tells = tells
-told_here plan ended (Some next) tokens later all same tells = tells later ∙ ap (λ xs. is_next plan ended xs) (sym same)
+-- behind a token that tells nothing those behind it tell the rest
+pub next_goes_on : (plan : List (Option Slot)) (tokens after : List LineTok) (i ended now : ℕ) (d : LineTok) → i < length tokens → (get_or tokens i d).directive ≡ false → is_trailing (get_or tokens i d).role ≡ false
+    → now ≡ ended + rows_before (slot_of plan (get_or tokens i d).id.0) (get_or tokens i d) + ((get_or tokens i d).rows - 1) → is_next plan now (drop (i + 1) tokens ++ after) ≡ is_next plan ended (drop i tokens ++ after)
+next_goes_on plan tokens after i ended now d within directive trailing ends =
+    let token : LineTok = get_or tokens i d in
+    let here : ℕ = ended + rows_before (slot_of plan token.id.0) token in
+    let rest : Bool = is_next plan (here + (token.rows - 1)) (drop (suc i) tokens ++ after) in
+    let on : i + 1 ≡ suc i = omega arith in
+    ap (λ n. is_next plan n (drop (i + 1) tokens ++ after)) ends
+    ∙ (ap (λ n. is_next plan (here + (token.rows - 1)) (drop n tokens ++ after)) on
+    ∙ sym (ap (λ (xs : List LineTok). is_next plan ended (xs ++ after)) (drop-cons tokens i d within)
+    ∙ (ap (λ (f : Bool). if f then false else (if is_trailing token.role then here == 1 else rest)) directive ∙ ap (λ (t : Bool). if t then here == 1 else rest) trailing)))
 
--- and those behind them tell the rest
-pub on_here : (plan : List (Option Slot)) (ended now : ℕ) (told : Option Bool) (tokens later all : List LineTok) → all ≡ tokens ++ later
-    → IfNone told ((xs : List LineTok) → is_next plan now xs ≡ is_next plan ended (tokens ++ xs)) → IfNone told (is_next plan now later ≡ is_next plan ended all)
-on_here plan ended now None tokens later all same tells = tells later ∙ ap (λ xs. is_next plan ended xs) (sym same)
-on_here plan ended now (Some next) tokens later all same tells = tells
+-- behind a directive no comment stands on the next row
+pub next_told : (plan : List (Option Slot)) (tokens after : List LineTok) (i ended : ℕ) (d : LineTok) → i < length tokens → (get_or tokens i d).directive ≡ true → false ≡ is_next plan ended (drop i tokens ++ after)
+next_told plan tokens after i ended d within directive =
+    let token : LineTok = get_or tokens i d in
+    let here : ℕ = ended + rows_before (slot_of plan token.id.0) token in
+    let rest : Bool = is_next plan (here + (token.rows - 1)) (drop (suc i) tokens ++ after) in
+    sym (ap (λ (xs : List LineTok). is_next plan ended (xs ++ after)) (drop-cons tokens i d within)
+    ∙ ap (λ (f : Bool). if f then false else (if is_trailing token.role then here == 1 else rest)) directive)
 
--- the first of tokens and those behind it
-pub one_split : (tokens : List LineTok) (first end : ℕ) (token : LineTok) → first < end → end ≤ length tokens → end - first ≡ 1 → token ≡ get_or tokens first token → drop first tokens ≡ (token ∷ []) ++ drop end tokens
-one_split tokens first end token some within one same =
-    let next : suc first ≡ end = omega (arith, one, some) in
-    drop-cons tokens first token (omega (arith, some, within)) ∙ (ap (λ t. t ∷ drop (suc first) tokens) (sym same) ∙ ap (λ n. token ∷ drop n tokens) next)
+-- at a comment the rows that ended before it tell it
+pub next_found : (plan : List (Option Slot)) (tokens after : List LineTok) (i ended : ℕ) (d : LineTok) → i < length tokens → (get_or tokens i d).directive ≡ false → is_trailing (get_or tokens i d).role ≡ true
+    → (ended + rows_before (slot_of plan (get_or tokens i d).id.0) (get_or tokens i d) == 1) ≡ is_next plan ended (drop i tokens ++ after)
+next_found plan tokens after i ended d within directive trailing =
+    let token : LineTok = get_or tokens i d in
+    let here : ℕ = ended + rows_before (slot_of plan token.id.0) token in
+    let rest : Bool = is_next plan (here + (token.rows - 1)) (drop (suc i) tokens ++ after) in
+    sym (ap (λ (xs : List LineTok). is_next plan ended (xs ++ after)) (drop-cons tokens i d within)
+    ∙ (ap (λ (f : Bool). if f then false else (if is_trailing token.role then here == 1 else rest)) directive ∙ ap (λ (t : Bool). if t then here == 1 else rest) trailing))

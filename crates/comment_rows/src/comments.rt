@@ -47,9 +47,10 @@ fn has_open_comment(plan: &Plan<'_>, toks: &ViewTokens<'_>) -> bool
     ensures { OnFalse result
         (All (λ token. is_trailing token.role ≡ true → IsSome (slot_of plan.now token.id.0)) toks.now) }
 {
+    let mut segment = 0;
     let mut at = next_trailing(toks, 0);
     while at < toks.len() {
-        if !plan.is_decided(toks.at(at).id.0) {
+        if !plan.is_decided(toks.id(at, &mut segment)) {
             return true;
         }
         at = next_trailing(toks, at + 1);
@@ -153,6 +154,7 @@ fn comment_at(
     toks: &ViewTokens<'_>,
     at: usize,
     known: &mut Behind,
+    segment: &mut usize,
     run: &Bump,
 ) -> Result<Comment, NoMemory>
     requires range { IsInRange style.now }
@@ -174,7 +176,7 @@ fn comment_at(
     let column = column_behind(style, plan, toks, &left, *known, place, run)?;
     *known = Behind { place, column };
     let token = toks.at(at);
-    let next = is_next(plan, toks, at + 1, run)?;
+    let next = is_next(plan, toks, at + 1, segment);
     Ok(comment_of(style, plan, &left, column, &token, next))
 }
 
@@ -198,9 +200,11 @@ fn comments_in<'r>(
         place: 0,
         column: end_of(&first, first_start(plan.slot(first.id.0))),
     };
+    let mut segment = 0;
     let mut at = next_trailing(toks, 1);
     while at < toks.len() {
-        comments.push(comment_at(style, plan, toks, at, &mut known, run)?)?;
+        let comment = comment_at(style, plan, toks, at, &mut known, &mut segment, run)?;
+        comments.push(comment)?;
         at = next_trailing(toks, at + 1);
     }
     Ok(comments)

@@ -1,18 +1,16 @@
 //! Where tokens stand, read off what is decided for their gaps.
 
-ghost use Rattle.std.specs.Prelude.{◌≡◌, ◌<◌, ◌≤◌, ◌++◌, All, IfNone, IfOk, IfSome, List, drop, length};
+ghost use Rattle.std.specs.Prelude.{◌≡◌, ◌<◌, ◌≤◌, ◌++◌, All, IfNone, IfSome, List, drop, get_or, length};
 ghost use Rattle.style_table.specs.Range.{IsInRange};
 ghost use Rattle.line_tokens.specs.declared.LineTok.{LineTok};
 ghost use Rattle.line_tokens.specs.Columns.{end_of};
 ghost use Rattle.comment_rows.specs.Comments.{ends_in, first_start, is_next, rows_before, start_by};
 
-use crate::trailing::next_trailing;
-use bumpalo::Bump;
 use layout_tables::spaces_before;
-use line_tokens::{LineTok, NoMemory, Role};
+use line_tokens::LineTok;
 use replacements::{Decision, Plan, Slot};
 use style_table::Style;
-use view_tokens::ViewTokens;
+use view_tokens::{RowTokens, ViewTokens};
 
 /// How many rows end in a gap that is decided so, where the input's gap has so many new-lines.
 fn ends_in(decision: Decision, lines: u32) -> u32
@@ -26,13 +24,15 @@ fn ends_in(decision: Decision, lines: u32) -> u32
     }
 }
 
-/// How many rows end in the gap before a token; in one that is open none does.
-fn rows_before(slot: Option<Slot>, token: &LineTok) -> u32
-    ensures { result ≡ rows_before slot token.now }
+/// How many rows end in the gap before the token at a place; in one that is open none does.
+#[inline(always)]
+fn rows_before(slot: Option<Slot>, row: &RowTokens<'_>, at: usize) -> u32
+    requires { at < length row.now }
+    ensures { (d : LineTok) → result ≡ rows_before slot (get_or row.now at d) }
 {
     match slot {
         None => 0,
-        Some(slot) => ends_in(slot.decision, token.gap.lines),
+        Some(slot) => ends_in(slot.decision, row.lines(at)),
     }
 }
 
@@ -77,24 +77,24 @@ pub(crate) fn end_of(token: &LineTok, start: u32) -> u32
 /// Whether the next trailing comment begins on the row directly behind the comment before these tokens, and no
 /// directive stands between, where these tokens tell it. `ended` counts the rows that ended since that comment.
 #[inline(always)]
-fn next_among(plan: &Plan<'_>, tokens: &[LineTok], ended: &mut u64) -> Option<bool>
-    requires within { All (λ token. token.id.0 < length plan.now) tokens.now }
+fn next_among(plan: &Plan<'_>, row: &RowTokens<'_>, ended: &mut u64) -> Option<bool>
+    requires within { All (λ token. token.id.0 < length plan.now) row.now }
     requires short { ended.old ≤ 1 }
     ensures told { IfSome result (λ next. (later : List LineTok) →
-        next ≡ is_next plan.now ended.old (tokens.now ++ later)) }
+        next ≡ is_next plan.now ended.old (row.now ++ later)) }
     ensures on { IfNone result ((later : List LineTok) →
-        is_next plan.now ended.new later ≡ is_next plan.now ended.old (tokens.now ++ later)) }
+        is_next plan.now ended.new later ≡ is_next plan.now ended.old (row.now ++ later)) }
     ensures short { IfNone result (ended.new ≤ 1) }
 {
-    for token in tokens {
-        if token.directive {
+    for at in 0..row.len() {
+        if row.is_behind_directive(at) {
             return Some(false);
         }
-        let here = *ended + u64::from(rows_before(plan.slot(token.id.0), token));
-        if token.role.is_trailing() {
+        let here = *ended + u64::from(rows_before(plan.slot(row.id(at)), row, at));
+        if row.role(at).is_trailing() {
             return Some(here == 1);
         }
-        *ended = here + u64::from(token.rows.saturating_sub(1));
+        *ended = here + u64::from(row.extent(at).rows.saturating_sub(1));
         if *ended > 1 {
             return Some(false);
         }
@@ -102,69 +102,26 @@ fn next_among(plan: &Plan<'_>, tokens: &[LineTok], ended: &mut u64) -> Option<bo
     None
 }
 
-/// The end of the tokens from a place on that are made at once. What an inner comment is hangs on those behind it, and
-/// so it is made with all tokens up to the next trailing comment.
-#[inline(always)]
-fn made_end(toks: &ViewTokens<'_>, place: usize) -> usize
-    requires { place < length toks.now }
-    ensures some { place < result }
-    ensures within { result ≤ length toks.now }
-{
-    // How many there are fits, and so the next place.
-    let _count = toks.len();
-    if toks.role(place) == Role::Inner {
-        return next_trailing(toks, place + 1);
-    }
-    place + 1
-}
-
-/// The same as [`next_among`] for the tokens of a view from one place to before another.
-#[inline(always)]
-fn next_between(
-    plan: &Plan<'_>,
-    toks: &ViewTokens<'_>,
-    first: usize,
-    end: usize,
-    ended: &mut u64,
-    run: &Bump,
-) -> Result<Option<bool>, NoMemory>
-    requires within { All (λ token. token.id.0 < length plan.now) toks.now }
-    requires some { first < end }
-    requires inside { end ≤ length toks.now }
-    requires short { ended.old ≤ 1 }
-    ensures told { IfOk result (λ told. IfSome told (λ next. next ≡ is_next plan.now ended.old (drop first toks.now))) }
-    ensures on { IfOk result (λ told. IfNone told
-        (is_next plan.now ended.new (drop end toks.now) ≡ is_next plan.now ended.old (drop first toks.now))) }
-    ensures short { IfOk result (λ told. IfNone told (ended.new ≤ 1)) }
-{
-    if end - first == 1 {
-        let token = toks.at(first);
-        return Ok(next_among(plan, &[token], ended));
-    }
-    let tokens = toks.between(first, end, run)?;
-    Ok(next_among(plan, tokens, ended))
-}
-
 /// Whether the next trailing comment from a place on begins on the row directly behind the comment before that place,
-/// and no directive stands between.
+/// and no directive stands between. `segment` is the number of the view's segment that was looked into last.
 pub(crate) fn is_next(
     plan: &Plan<'_>,
     toks: &ViewTokens<'_>,
     first: usize,
-    run: &Bump,
-) -> Result<bool, NoMemory>
+    segment: &mut usize,
+) -> bool
     requires within { All (λ token. token.id.0 < length plan.now) toks.now }
     requires inside { first ≤ length toks.now }
-    ensures { IfOk result (λ next. next ≡ is_next plan.now 0 (drop first toks.now)) }
+    ensures { result ≡ is_next plan.now 0 (drop first toks.now) }
 {
     let mut ended = 0;
     let mut place = first;
     while place < toks.len() {
-        let end = made_end(toks, place);
-        if let Some(next) = next_between(plan, toks, place, end, &mut ended, run)? {
-            return Ok(next);
+        let row = toks.row_from(place, segment);
+        if let Some(next) = next_among(plan, &row, &mut ended) {
+            return next;
         }
-        place = end;
+        place += row.len();
     }
-    Ok(false)
+    false
 }

@@ -1,5 +1,5 @@
 -- The tokens of a view, and those whose items follow one another.
-use Rattle.std.proofs.Common.{◌≡◌, ◌∙◌, ℕ, zero, suc, ◌+◌, ◌-◌, ◌<◌, ◌≤◌, ◌==◌, ◌&&◌, Bool, true, false, List, [], ◌∷◌, ◌++◌, length, drop, take, get_or, refl, sym, ap, arith, Some}
+use Rattle.std.proofs.Common.{◌≡◌, ◌∙◌, ℕ, zero, suc, ◌+◌, ◌-◌, ◌<◌, ◌≤◌, ◌==◌, ◌&&◌, Bool, true, false, List, [], ◌∷◌, ◌++◌, length, drop, take, get_or, refl, sym, ap, arith, subst, Some}
 use Rattle.std.proofs.Common.{length-drop}
 use Rattle.std.specs.Prelude.{slice_get}
 use Rattle.std.proofs.lemmas.List.{get_or-take, length-take-le, take_at}
@@ -12,6 +12,8 @@ use Rattle.token_roles.specs.Held.{is_held}
 use Rattle.item_classes.specs.Items.{stands_apart}
 use Rattle.item_classes.specs.Viewed.{AreWithin}
 use Rattle.view_tokens.specs.Tokens.{tok_of, toks_from}
+use Rattle.view_tokens.specs.Inside.{IsRowStart}
+use Rattle.view_tokens.specs.declared.start.RowStart.{RowStart}
 use Rattle.view_tokens.specs.Row.{row_from, row_of, IsRow}
 use Rattle.view_tokens.proofs.Pushed.{no_mark, follows}
 use Rattle.view_tokens.proofs.Told.{as_many_from}
@@ -163,6 +165,12 @@ row_within arena ids marks first count id within many some fits items =
     let below : get_or ids (first + (count - 1)) 0 < length arena.tokens = within (first + (count - 1)) 0 (omega (arith, some, fits)) in
     record { items = omega (arith, last, below, some); told = omega (arith, length-drop first marks, many, fits) }
 
+-- those from a place on, as many as follow one another
+pub row_on : (arena : Contents) (ids : List ℕ) (marks cut : List Mark) (first count : ℕ) (start : RowStart) → AreWithin arena ids → length marks ≡ length ids → 0 < count → first + count ≤ length ids → count ≤ start.count
+    → IsRowStart ids first start → cut ≡ drop first marks → IsRow arena start.id cut count
+row_on arena ids marks cut first count start within many some fits few is cut_is =
+    subst (λ (ms : List Mark). IsRow arena start.id ms count) (sym cut_is) (row_within arena ids marks first count start.id within many some fits (λ j below. is.items j (omega (arith, below, few))))
+
 -- ## One token
 
 pub made_token : (arena : Contents) (ids : List ℕ) (marks : List Mark) (k id : ℕ) (apart : Bool) (tok d : LineTok) → k < length marks → get_or ids k 0 ≡ id → apart ≡ stands_apart ids k
@@ -172,7 +180,7 @@ made_token arena ids marks k id apart tok d within at is made =
     ∙ (ap (λ n. tok_of arena n apart (get_or marks k no_mark) (is_held (drop k marks))) (sym at)
     ∙ (ap (λ (b : Bool). tok_of arena (get_or ids k 0) b (get_or marks k no_mark) (is_held (drop k marks))) is ∙ sym (view_token arena ids marks k d within)))
 
-first_apart : (apart : Bool) (k : ℕ) → (apart && k == 0) ≡ apart_at apart k
+pub first_apart : (apart : Bool) (k : ℕ) → (apart && k == 0) ≡ apart_at apart k
 first_apart true zero = refl
 first_apart false zero = refl
 first_apart true (suc k) = eqb-suc-zero k

@@ -188,6 +188,24 @@ impl<'v> RowTokens<'v> {
         self.item(at).gap.empty
     }
 
+    /// How many new-lines the gap before a place has in the input.
+    #[inline(always)]
+    pub fn lines(&self, at: usize) -> u32
+        requires { at < length self.now }
+        ensures { (d : LineTok) → result ≡ (get_or self.now at d).gap.lines }
+    {
+        self.item(at).gap.lines
+    }
+
+    /// Whether a directive stands between the token at a place and the one before it in its view.
+    #[inline(always)]
+    pub fn is_behind_directive(&self, at: usize) -> bool
+        requires { at < length self.now }
+        ensures { (d : LineTok) → result ≡ (get_or self.now at d).directive }
+    {
+        is_apart(self.apart, at)
+    }
+
     /// Whether the token at a place may stand directly behind the item before it.
     #[inline(never)]
     pub fn touches(&self, at: usize) -> bool

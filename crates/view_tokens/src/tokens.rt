@@ -1,6 +1,6 @@
 //! The tokens of a view.
 
-ghost use Rattle.std.specs.Prelude.{◌≡◌, ◌==◌, ◌<◌, ◌≤◌, ℕ, IfOk, IfSome, length, get_or, slice_range, false};
+ghost use Rattle.std.specs.Prelude.{◌≡◌, ◌==◌, ◌<◌, ◌≤◌, ◌+◌, ℕ, IfOk, IfSome, length, get_or, slice_range, false};
 ghost use Rattle.line_tokens.specs.declared.LineTok.{LineTok};
 ghost use Rattle.view_tokens.specs.Tokens.{toks_from, AreTold};
 
@@ -103,6 +103,35 @@ impl<'v> ViewTokens<'v> {
             &mut toks,
         );
         Ok(into_bump_slice(toks))
+    }
+
+    /// The number of the item at a place. `segment` is the number of the view's segment that was looked into last.
+    #[inline(always)]
+    pub fn id(&self, place: usize, segment: &mut usize) -> u32
+        requires { place < length self.now }
+        ensures { (d : LineTok) → result ≡ (get_or self.now place d).id.0 }
+    {
+        row_start(self.view, place as u32, segment).id
+    }
+
+    /// The tokens from a place on whose items follow one another in the text, as many as there are. `segment` is the
+    /// number of the view's segment that was looked into last.
+    #[inline(always)]
+    pub fn row_from(&self, first: usize, segment: &mut usize) -> RowTokens<'v>
+        requires { first < length self.now }
+        ensures some { 0 < length result }
+        ensures within { first + length result ≤ length self.now }
+        ensures tokens { result ≡ slice_range self.now first (first + length result) }
+    {
+        let left = self.marks.len() - first;
+        let start = row_start(self.view, first as u32, segment);
+        RowTokens::of(
+            self.arena,
+            start.id,
+            start.apart,
+            marks_from(self.marks, first),
+            left.min(start.count as usize),
+        )
     }
 
     /// The tokens from one place to before another, where their items follow one another in the text. `segment` is the

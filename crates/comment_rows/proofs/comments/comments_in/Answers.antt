@@ -34,7 +34,7 @@ loop-at-preserved c =
     let tokens = c.args.toks.now in
     let v = c.loop-at.invariant in
     let at = c.loop-at.at in
-    let made = c.in_ok-comment_at.ensures in
+    let made = c.in_ok-comment.ensures in
     let next = c.next_trailing-at-in-loop-at.ensures in
     let on = c.next_trailing-at-in-loop-at.result in
     let below : at < length tokens = omega (arith, c.loop-at-test.true, c.len.ensures) in
@@ -46,5 +46,5 @@ loop-at-preserved c =
       order = omega (arith, made.order, next.later);
       known = made.known;
       kept = ap (λ (later : List Comment). items ++ later) (none_between style plan tokens (at + 1) on (omega arith) next.later next.within next.others)
-          ∙ (found_more style plan tokens at c.loop-at.comments.items items c.in_ok-comment_at.field-0 v.from below (v.found below no_token) made.comment c.in_ok-push.ensures.items ∙ v.kept);
+          ∙ (found_more style plan tokens at c.loop-at.comments.items items c.in_ok-comment.comment v.from below (v.found below no_token) made.comment c.in_ok-push.ensures.items ∙ v.kept);
     }
