@@ -12,6 +12,7 @@ pub mod RowLines
 pub mod LineOutcomes
 pub mod RunSteps
 pub mod ShortRows
+pub mod NearRows
 pub mod WaitingComments
 pub mod Views
 pub mod Failed

@@ -74,7 +74,7 @@ none_stand style column left (token ∷ tokens) wait =
     by_flag false later all e h = cc
 
 -- nothing at all stands behind the last token
-pub none_wait : (tokens : List LineTok) → All (λ token. is_trailing token.role ≡ true) (drop (length tokens) tokens)
+none_wait : (tokens : List LineTok) → All (λ token. is_trailing token.role ≡ true) (drop (length tokens) tokens)
 none_wait tokens = subst (λ (xs : List LineTok). All (λ token. is_trailing token.role ≡ true) xs) (sym (drop_all (length tokens) tokens (omega arith))) (λ k d below. absurd (omega (arith, below)))
 
 -- one comment waits
@@ -100,3 +100,16 @@ stand_more tokens at right before here stands i token some within is = by_place 
     by_place : (i ≡ at) ⊎ (i < at) → is_trailing token.role ≡ false
     by_place (inl same) = ap (λ (t : LineTok). is_trailing t.role) (some_same token right (sym is ∙ (ap (slice_get tokens) same ∙ here))) ∙ stands
     by_place (inr less) = before i token some less is
+
+-- all tokens stand in the row, and none waits
+pub all_stand : (tokens : List LineTok) (behind at count most : ℕ) → 0 < length tokens → at ≡ length tokens → count ≡ length tokens
+    → ((i : ℕ) (token : LineTok) → 0 < i → i < at → slice_get tokens i ≡ Some token → is_trailing token.role ≡ false) → behind + width_to tokens (at - 1) ≤ most → most ≤ 1000 → IsShortRow tokens behind count
+all_stand tokens behind at count most some all are stand widths near =
+    let width : width_to tokens (at - 1) ≡ width_to tokens (count - 1) = ap (λ n. width_to tokens (n - 1)) (all ∙ sym are) in
+    record {
+      some = omega (arith, some, are);
+      within = omega (arith, are);
+      stand = λ i token from below is. stand i token from (omega (arith, all, are, below)) is;
+      wait = subst (λ n. All (λ token. is_trailing token.role ≡ true) (drop n tokens)) (sym are) (none_wait tokens);
+      few = omega (arith, widths, width, near);
+    }

@@ -22,7 +22,7 @@ use crate::broken::{OpenLine, write_broken};
 use crate::laid::Laid;
 use crate::report::{Tally, note_line};
 use crate::row::{end_of, first_start, is_open_row, write_row};
-use crate::short_row::{end_at, few_tokens, short_row, write_short_row};
+use crate::short_row::{few_tokens, short_row, write_short_row};
 use break_search::{Outcome, search};
 use bumpalo::Bump;
 use layout_tables::{RowBlanks, start_column};
@@ -81,9 +81,8 @@ fn lay_out_short_row(
     let Some(count) = short_row(style, &row, column, plan) else {
         return false;
     };
-    let behind = end_at(&row, 0, column);
     decide_first(layout, line, id, plan);
-    write_short_row(style, blanks, &row, count, behind, plan);
+    write_short_row(style, blanks, &row, count, column, plan);
     true
 }
 

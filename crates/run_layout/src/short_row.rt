@@ -5,7 +5,7 @@ ghost use Rattle.std.specs.Prelude.{if◌then◌else◌, length, min, true};
 ghost use Rattle.line_tokens.specs.declared.LineTok.{LineTok};
 ghost use Rattle.line_tokens.specs.Roles.{is_trailing};
 ghost use Rattle.style_table.specs.Range.{IsInRange};
-ghost use Rattle.line_tokens.specs.Columns.{end_of};
+ghost use Rattle.line_tokens.specs.Columns.{columns, end_of};
 ghost use Rattle.line_state.specs.Line.{Line};
 ghost use Rattle.line_tokens.specs.Tokens.{no_token};
 ghost use Rattle.replacements.specs.Decisions.{decided_all};
@@ -17,12 +17,13 @@ ghost use Rattle.run_layout.specs.OneRow.{StandTogether, row_made};
 
 use crate::roles::{ends_row, groups_of, is_own_or_trailing};
 use layout_tables::{RowBlanks, spaces_before};
+use line_tokens::{GapFacts, LineTok, TokenId};
 use replacements::{Decision, Plan};
 use style_table::Style;
 use view_tokens::RowTokens;
 
 /// The column behind the token at a place that starts at a column.
-pub(crate) fn end_at(tokens: &RowTokens<'_>, at: usize, start: u32) -> u32
+fn end_at(tokens: &RowTokens<'_>, at: usize, start: u32) -> u32
     requires { at < length tokens.now }
     ensures { result ≡ end_of (get_or tokens.now at no_token) start }
 {
@@ -99,54 +100,40 @@ fn ends_waiting(tokens: &RowTokens<'_>, at: usize) -> bool
         && !ends_row(tokens.kind(at - 1), tokens.is_in_trailing_list(at))
 }
 
-/// How many tokens of a line whose first gap is open stand in its row before a trailing comment that ends it, where the
-/// line stays on one row as [`is_open_row`] says it and the gaps inside it are open. It is told by one blank in each
-/// gap: the table has no more but before trailing comments.
+/// A token of a row as the table of blanks sees it, where it may stand directly behind the one before it.
 #[inline(always)]
-pub(crate) fn short_row(
-    style: &Style,
-    tokens: &RowTokens<'_>,
-    column: u32,
-    plan: &Plan<'_>,
-) -> Option<usize>
-    requires range { IsInRange style.now }
-    requires limit { 0 < style.now.column_limit }
-    requires some { 0 < length tokens.now }
-    requires few { length tokens.now ≤ 1000 }
-    requires together { StandTogether tokens.now }
-    requires within { All (λ token. token.id.0 < length plan.now) tokens.now }
-    ensures inside { IfSome result (λ count. AreOpenInside plan.now tokens.now) }
-    ensures row { IfSome result (λ count.
-        (l : Line) (budget : ℕ) → 1001000 ≤ budget → IsRowLine l style.now column tokens.now None → IsRow l budget) }
-    ensures short { IfSome result
-        (λ count. IsShortRow tokens.now (end_of (get_or tokens.now 0 no_token) column) count) }
+fn seen_by_table(tokens: &RowTokens<'_>, at: usize) -> LineTok
+    requires { at < length tokens.now }
+    ensures role { result.role ≡ (get_or tokens.now at no_token).role }
+    ensures kind { result.kind ≡ (get_or tokens.now at no_token).kind }
+    ensures empty { result.gap.empty ≡ (get_or tokens.now at no_token).gap.empty }
+    ensures touch { result.touch ≡ true }
 {
-    let limit = u64::from(style.column_limit);
-    let mut kind = tokens.kind(0);
-    let mut most = u64::from(column) + u64::from(most_width(tokens, 0));
-    for at in 1..tokens.len() {
-        if most > limit {
-            return None;
-        }
-        if plan.is_decided(tokens.id(at)) {
-            return None;
-        }
-        if ends_row(kind, tokens.is_in_trailing_list(at)) | is_own_or_trailing(tokens.role(at)) {
-            if !ends_waiting(tokens, at) {
-                return None;
-            }
-            return Some(at);
-        }
-        most += 1 + u64::from(most_width(tokens, at));
-        kind = tokens.kind(at);
+    LineTok {
+        id: TokenId(0),
+        role: tokens.role(at),
+        power: 0,
+        depth: 0,
+        trailing_list: false,
+        held: false,
+        touch: true,
+        directive: false,
+        gap: GapFacts {
+            lines: 0,
+            empty: tokens.is_behind_nothing(at),
+            white: false,
+            splice: false,
+            began: false,
+        },
+        kind: tokens.kind(at),
+        rows: 1,
+        first_width: 0,
+        last_width: 0,
     }
-    if most > limit {
-        return None;
-    }
-    Some(tokens.len())
 }
 
-/// The blanks before the token at a place of a row, by the table.
+/// The blanks before the token at a place of a row, by the table. Whether it touches the item before it is asked only
+/// where the table tells none in a gap with bytes.
 #[inline(never)]
 fn spaces_by_table(style: &Style, tokens: &RowTokens<'_>, at: usize) -> u8
     requires range { IsInRange style.now }
@@ -154,9 +141,13 @@ fn spaces_by_table(style: &Style, tokens: &RowTokens<'_>, at: usize) -> u8
     requires within { at < length tokens.now }
     ensures { result ≡ spaces_before style.now (get_or tokens.now (at - 1) no_token) (get_or tokens.now at no_token) }
 {
-    let left = tokens.at(at - 1);
-    let right = tokens.at(at);
-    spaces_before(style, &left, &right)
+    let left = seen_by_table(tokens, at - 1);
+    let right = seen_by_table(tokens, at);
+    let spaces = spaces_before(style, &left, &right);
+    if spaces > 0 || right.gap.empty {
+        return spaces;
+    }
+    one_if(!tokens.touches(at))
 }
 
 /// One blank or none.
@@ -192,16 +183,125 @@ fn spaces_at(
     if told > 1 {
         return spaces_by_table(style, tokens, at);
     }
-    // One test of a sum, since whether a blank stands there is hard to foresee.
-    if told + one_if(tokens.is_behind_nothing(at)) == 0 {
+    // One comparison, since whether a blank stands there is hard to foresee.
+    if one_if(!tokens.is_behind_nothing(at)) > told {
         return one_if(!tokens.touches(at));
     }
     told
 }
 
-/// Decides the gaps inside a short line, whose first token ends at a column, up to a trailing comment that waits.
+/// Whether the first row of the token at a place doesn't pass the limit, where it starts at a column.
 #[inline(always)]
-pub(crate) fn write_short_row(
+fn fits_at(style: &Style, tokens: &RowTokens<'_>, at: usize, start: u32) -> bool
+    requires { at < length tokens.now }
+    ensures { IsTrue result →
+        columns start (get_or tokens.now at no_token).first_width ≤ style.now.column_limit }
+{
+    start.saturating_add(tokens.extent(at).first_width) <= style.column_limit
+}
+
+/// Whether a line without trailing comments, whose gaps are open, stays on one row as [`is_open_row`] says it, told by
+/// the blanks that stand in its gaps. Few lines come so near to the limit that these are asked for.
+#[inline(never)]
+fn is_near_row(style: &Style, tokens: &RowTokens<'_>, column: u32) -> bool
+    requires range { IsInRange style.now }
+    requires limit { 0 < style.now.column_limit }
+    requires some { 0 < length tokens.now }
+    requires few { length tokens.now ≤ 1000 }
+    requires together { StandTogether tokens.now }
+    ensures { IsTrue result → (l : Line) (budget : ℕ) → 1001000 ≤ budget →
+        IsRowLine l style.now column tokens.now None → IsRow l budget }
+{
+    let blanks = RowBlanks::of(style);
+    let mut kind = tokens.kind(0);
+    let mut behind = groups_of(tokens.role(0)).behind;
+    let mut end = end_at(tokens, 0, column);
+    if !fits_at(style, tokens, 0, column) {
+        return false;
+    }
+    for at in 1..tokens.len() {
+        if ends_row(kind, tokens.is_in_trailing_list(at)) | is_own_or_trailing(tokens.role(at)) {
+            return false;
+        }
+        let groups = groups_of(tokens.role(at));
+        let group = behind.min(groups.before);
+        let spaces = u32::from(spaces_at(style, &blanks, tokens, at, group));
+        let start = end.saturating_add(spaces);
+        if !fits_at(style, tokens, at, start) {
+            return false;
+        }
+        end = end_at(tokens, at, start);
+        behind = groups.behind;
+        kind = tokens.kind(at);
+    }
+    true
+}
+
+/// How many tokens of a line whose first gap is open stand in its row before a trailing comment that ends it, where the
+/// line stays on one row as [`is_open_row`] says it and the gaps inside it are open. Of most lines it is told by one
+/// blank in each gap: the table has no more but before trailing comments.
+#[inline(always)]
+pub(crate) fn short_row(
+    style: &Style,
+    tokens: &RowTokens<'_>,
+    column: u32,
+    plan: &Plan<'_>,
+) -> Option<usize>
+    requires range { IsInRange style.now }
+    requires limit { 0 < style.now.column_limit }
+    requires some { 0 < length tokens.now }
+    requires few { length tokens.now ≤ 1000 }
+    requires together { StandTogether tokens.now }
+    requires within { All (λ token. token.id.0 < length plan.now) tokens.now }
+    ensures inside { IfSome result (λ count. AreOpenInside plan.now tokens.now) }
+    ensures row { IfSome result (λ count.
+        (l : Line) (budget : ℕ) → 1001000 ≤ budget → IsRowLine l style.now column tokens.now None → IsRow l budget) }
+    ensures short { IfSome result
+        (λ count. IsShortRow tokens.now (end_of (get_or tokens.now 0 no_token) column) count) }
+{
+    let limit = u64::from(style.column_limit);
+    let mut kind = tokens.kind(0);
+    let mut least = u64::from(column) + u64::from(most_width(tokens, 0));
+    for at in 1..tokens.len() {
+        if least > limit {
+            return None;
+        }
+        if plan.is_decided(tokens.id(at)) {
+            return None;
+        }
+        if ends_row(kind, tokens.is_in_trailing_list(at)) | is_own_or_trailing(tokens.role(at)) {
+            if !ends_waiting(tokens, at) {
+                return None;
+            }
+            if least + (at - 1) as u64 > limit {
+                return None;
+            }
+            return Some(at);
+        }
+        least += u64::from(most_width(tokens, at));
+        kind = tokens.kind(at);
+    }
+    if least > limit {
+        return None;
+    }
+    let count = tokens.len();
+    let most = least + (count - 1) as u64;
+    if most <= limit {
+        return Some(count);
+    }
+    // No limit is greater.
+    if most > 1000 {
+        return None;
+    }
+    if is_near_row(style, tokens, column) {
+        return Some(count);
+    }
+    None
+}
+
+/// Decides the gaps inside a row whose first token ends at a column, up to a trailing comment that waits.
+#[inline(always)]
+fn write_behind(
     style: &Style,
     blanks: &RowBlanks,
     tokens: &RowTokens<'_>,
@@ -229,4 +329,31 @@ pub(crate) fn write_short_row(
         column = near_end_at(tokens, at, start);
         behind = groups.behind;
     }
+}
+
+/// Decides the gaps inside a short line that starts at a column, up to a trailing comment that waits. Where nothing
+/// stands behind the first token, as behind a comment on lines of its own, its end isn't read.
+#[inline(always)]
+pub(crate) fn write_short_row(
+    style: &Style,
+    blanks: &RowBlanks,
+    tokens: &RowTokens<'_>,
+    count: usize,
+    column: u32,
+    plan: &mut Plan<'_>,
+)
+    requires range { IsInRange style.now }
+    requires tell { TellBlanks style.now blanks.now.of_group }
+    requires short { IsShortRow tokens.now (end_of (get_or tokens.now 0 no_token) column) count }
+    requires within { All (λ token. token.id.0 < length plan.old) tokens.now }
+    ensures plan { plan.new
+        ≡ decided_all plan.old (row_made style.now (end_of (get_or tokens.now 0 no_token) column)
+        (get_or tokens.now 0 no_token) (drop 1 tokens.now)) }
+    ensures len { length plan.new ≡ length plan.old }
+{
+    if count == 1 {
+        return;
+    }
+    let behind = end_at(tokens, 0, column);
+    write_behind(style, blanks, tokens, count, behind, plan);
 }

@@ -1,5 +1,6 @@
-use Rattle.std.proofs.Common.{◌≡◌, ◌∙◌, ◌<◌, Some, None, length, get_or, slice_get, refl, sym, subst, ap, arith}
+use Rattle.std.proofs.Common.{◌≡◌, ◌∙◌, ◌<◌, Some, None, length, get_or, slice_get, refl, sym, ap, arith}
 use Rattle.std.proofs.lemmas.Option.{slice_get-get_or}
+use Rattle.line_tokens.specs.Columns.{end_of}
 use Rattle.line_tokens.specs.Tokens.{no_token}
 use Rattle.replacements.specs.Breaks.{fixed_by}
 use Rattle.replacements.specs.Decisions.{decided, slot_of}
@@ -7,7 +8,6 @@ use Rattle.line_gaps.specs.Fixed.{fixed_of_token}
 use Rattle.line_gaps.specs.Rows.{first_slot}
 use Rattle.line_gaps.proofs.Inside.{open_told}
 use Rattle.run_layout.specs.Broken.{of_line}
-use Rattle.run_layout.specs.OneRow.{IsShortRow}
 use Rattle.run_layout.proofs.LineOutcomes.{length_some}
 use Rattle.run_layout.proofs.RowLines.{tokens_within, first_number, row_here, row_plan}
 use Rattle.run_layout.proofs.lines.lay_out_short_row.Goals as goal
@@ -65,14 +65,6 @@ short_row-requires c =
 pub returns-in_default-short_row : goal.returns-in_default-short_row
 returns-in_default-short_row c = record { row = tt; opens = tt; limit = tt; plan = tt; same = refl; len = refl }
 
-pub end_at-behind-requires : goal.end_at-behind-requires
-end_at-behind-requires c =
-    let toks = c.args.layout.now.tokens.now in
-    let tokens = c.in-Some.row in
-    let are : tokens ≡ of_line c.args.line.now toks = c.in-Some.ensures.tokens in
-    let some : 0 < length tokens = length_some toks tokens c.args.line.now are c.requires.some (omega (arith, c.requires.places, c.requires.ready.tell.as_many)) in
-    some
-
 pub decide_first-requires : goal.decide_first-requires
 decide_first-requires c =
     let toks = c.args.layout.now.tokens.now in
@@ -98,7 +90,7 @@ write_short_row-requires c =
     record {
       range = c.requires.ready.range;
       tell = c.requires.tell;
-      short = subst (λ x. IsShortRow tokens x c.in-Some-short_row.count) (sym c.end_at-behind.ensures) c.in-Some-short_row.ensures.short;
+      short = c.in-Some-short_row.ensures.short;
       within = tokens_within c.args.layout.now.arena.now c.args.layout.now.view.now toks tokens c.args.line.now (length c.decide_first.new.plan) c.requires.ready.within c.requires.ready.tell c.requires.places
           (c.decide_first.ensures.len ∙ c.requires.whole) are;
     }
@@ -166,7 +158,7 @@ returns-clause-plan c =
     let made : c.decide_first.new.plan ≡ decided plan token.id.0 (first_slot style arena ids line) = c.decide_first.ensures.plan ∙ ap (λ n. decided plan n (first_slot style arena ids line)) (c.id-id.ensures no_token) in
     row_plan style arena ids toks plan line c.args.layout.now.budget c.start_column-column.result tokens None token
     c.requires.ready.tell are at inside c.start_column-column.ensures first
-    c.start_column-column.result c.end_at-behind.result c.decide_first.new.plan c.write_short_row.new.plan some number row refl c.end_at-behind.ensures made c.write_short_row.ensures.plan
+    c.start_column-column.result (end_of token c.start_column-column.result) c.decide_first.new.plan c.write_short_row.new.plan some number row refl refl made c.write_short_row.ensures.plan
 
 pub returns-clause-same : goal.returns-clause-same
 returns-clause-same c = tt

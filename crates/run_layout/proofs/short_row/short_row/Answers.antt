@@ -1,12 +1,11 @@
-use Rattle.std.proofs.Common.{inr, Some, None, get_or, true, false, drop, ◌≤◌, ◌≡◌, ◌∙◌, ◌+◌, ◌-◌, ◌||◌, suc, slice_get, refl, sym, ap, subst, arith, length}
-use Rattle.std.specs.Prelude.{All}
+use Rattle.std.proofs.Common.{inr, Some, None, get_or, true, false, ◌≤◌, ◌≡◌, ◌∙◌, ◌+◌, ◌-◌, ◌||◌, suc, slice_get, refl, sym, ap, subst, arith, length}
 use Rattle.std.proofs.lemmas.Bool.{or_parts}
 use Rattle.line_tokens.specs.Roles.{is_own, is_trailing}
 use Rattle.line_tokens.specs.Columns.{end_of}
 use Rattle.line_tokens.specs.Tokens.{no_token}
 use Rattle.layout_tables.specs.Breaks.{ends_its_row, gap_rule}
 use Rattle.run_layout.specs.OneRow.{IsOneRowUpTo, open_behind, width_to}
-use Rattle.run_layout.proofs.ShortRows.{none_wait, one_waits, stand_more, width_more}
+use Rattle.run_layout.proofs.ShortRows.{all_stand, one_waits, stand_more, width_more}
 use Rattle.run_layout.proofs.RowRoles.{no_break, trails}
 use Rattle.run_layout.proofs.RowSteps.{row_begins, row_begins_free, row_ends}
 use Rattle.std.proofs.lemmas.Option.{slice_get-get_or, slice_get_within}
@@ -62,57 +61,64 @@ loop-at-preserved c =
     let stays : (gap_rule c.args.style.now left right).must ≡ false = no_break c.args.style.now left right (c.requires.together at no_token (omega (arith, v.from)) (omega (arith, c.loop-at-test.true, c.len-at-end.ensures))) ends roles.0 c.requires.limit in
     let places : is_trailing right.role ≡ false = roles.1 in
     let number : (get_or c.args.tokens.now at no_token).id.0 ≡ c.id.result = sym (c.id.ensures no_token) in
-    let width = c.from-in-loop-at.result in
-    let most = c.loop-at.most in
+    let width = c.from-least.result in
+    let most = c.loop-at.least + (at - 1) in
+    let grown = c.loop-at.least + width + (at + 1 - 1) in
     record {
       from = omega arith;
       kind = c.kind-kind-in-loop-at.ensures no_token ∙ ap (λ i. (get_or c.args.tokens.now i no_token).kind) (sym here);
       few = omega (arith, v.few);
       row = λ line is fits.
-          subst (λ n. IsOneRowUpTo line n (most + (1 + width))) placed
-          (goes_on_up_to line c.args.style.now c.args.column c.args.tokens.now None is (at - 1) most (most + (1 + width)) left right (v.row line is (omega (arith, fits))) before
-          (ap (λ i. slice_get c.args.tokens.now i) next ∙ there) stays places (omega (arith, fits, c.most_width-in-loop-at.ensures.first, c.from-in-loop-at.ensures))
-          (omega (arith, v.from, c.loop-at-test.true, c.len-at-end.ensures, c.requires.few)) (omega (arith, c.most_width-in-loop-at.ensures.last, c.from-in-loop-at.ensures)));
+          subst (λ n. IsOneRowUpTo line n grown) placed
+          (goes_on_up_to line c.args.style.now c.args.column c.args.tokens.now None is (at - 1) most grown left right (v.row line is (omega (arith, v.from, fits))) before
+          (ap (λ i. slice_get c.args.tokens.now i) next ∙ there) stays places (omega (arith, v.from, fits, c.most_width-in-loop-at.ensures.first, c.from-least.ensures))
+          (omega (arith, v.from, c.loop-at-test.true, c.len-at-end.ensures, c.requires.few)) (omega (arith, v.from, c.most_width-in-loop-at.ensures.last, c.from-least.ensures)));
       inside = inside_more c.args.plan.now c.args.tokens.now at right v.inside there
           (ap (slot_of c.args.plan.now) number ∙ open_told (slot_of c.args.plan.now c.id.result) c.is_decided.result c.is_decided.ensures c.if-is_decided.false);
       stand = stand_more c.args.tokens.now at right v.stand there places;
-      widths = width_more c.args.tokens.now (end_of (get_or c.args.tokens.now 0 no_token) c.args.column) at most (most + (1 + width)) right v.from there v.widths
-          (omega (arith, c.most_width-in-loop-at.ensures.last, c.from-in-loop-at.ensures));
+      widths = width_more c.args.tokens.now (end_of (get_or c.args.tokens.now 0 no_token) c.args.column) at most grown right v.from there v.widths
+          (omega (arith, v.from, c.most_width-in-loop-at.ensures.last, c.from-least.ensures));
       first = omega (arith, v.first);
       free = v.free;
     }
 
-pub returns-clause-inside : goal.returns-clause-inside
-returns-clause-inside c = λ i token some is. c.loop-at.invariant.inside i token some (omega (arith, c.loop-at-test.false, c.len-at-end.ensures, slice_get_within c.args.tokens.now i token is)) is
+pub returns-then-most-limit-clause-inside : goal.returns-then-most-limit-clause-inside
+returns-then-most-limit-clause-inside c = λ i token some is. c.loop-at.invariant.inside i token some (omega (arith, c.loop-at-test.false, c.len-at-end.ensures, slice_get_within c.args.tokens.now i token is)) is
 
-pub returns-clause-row : goal.returns-clause-row
-returns-clause-row c = λ line budget rich is.
+pub returns-then-most-limit-clause-row : goal.returns-then-most-limit-clause-row
+returns-then-most-limit-clause-row c = λ line budget rich is.
     let v = c.loop-at.invariant in
-    let fits : c.loop-at.most ≤ c.args.style.now.column_limit = omega (arith, c.if-most-limit-2.false, c.from-limit.ensures) in
-    let row = v.row line is fits in
     let all : suc (c.loop-at.at - 1) ≡ length c.args.tokens.now = omega (arith, v.from, c.loop-at-test.false, c.len-at-end.ensures, c.loop-at.auto.at-end (omega (arith, c.len-at-end.ensures, c.requires.some))) in
+    let fits : c.loop-at.least + (c.loop-at.at - 1) ≤ c.args.style.now.column_limit = omega (arith, all, c.if-most-limit.true, c.from-limit.ensures, c.len-count.ensures) in
+    let row = v.row line is fits in
     row_ends line c.args.style.now c.args.column c.args.tokens.now None is budget (c.loop-at.at - 1) row.column row.frames row.count row.row all
     (omega (arith, row.cheap, all, c.requires.few, rich)) (v.free line is (omega (arith, v.first, fits)))
 
-pub returns-clause-short : goal.returns-clause-short
-returns-clause-short c =
+pub returns-then-most-limit-clause-short : goal.returns-then-most-limit-clause-short
+returns-then-most-limit-clause-short c =
     let v = c.loop-at.invariant in
-    let fits : c.loop-at.most ≤ c.args.style.now.column_limit = omega (arith, c.if-most-limit-2.false, c.from-limit.ensures) in
     let all : c.loop-at.at ≡ length c.args.tokens.now = omega (arith, v.from, c.loop-at-test.false, c.len-at-end.ensures, c.loop-at.auto.at-end (omega (arith, c.len-at-end.ensures, c.requires.some))) in
-    let width : width_to c.args.tokens.now (c.loop-at.at - 1) ≡ width_to c.args.tokens.now (length c.args.tokens.now - 1) = ap (λ n. width_to c.args.tokens.now (n - 1)) all in
-    record {
-      some = omega (arith, c.len.ensures, c.requires.some);
-      within = omega (arith, c.len.ensures);
-      stand = λ i token some below is. v.stand i token some (omega (arith, all, below, c.len.ensures)) is;
-      wait = subst (λ n. All (λ token. is_trailing token.role ≡ true) (drop n c.args.tokens.now)) (sym c.len.ensures) (none_wait c.args.tokens.now);
-      few = omega (arith, v.widths, width, ap (λ n. width_to c.args.tokens.now (n - 1)) c.len.ensures, fits, c.requires.range.column_limit);
-    }
+    all_stand c.args.tokens.now (end_of (get_or c.args.tokens.now 0 no_token) c.args.column) c.loop-at.at c.len-count.result (c.loop-at.least + (c.loop-at.at - 1)) c.requires.some all c.len-count.ensures v.stand v.widths
+    (omega (arith, all, c.if-most-limit.true, c.from-limit.ensures, c.len-count.ensures, c.requires.range.column_limit))
+
+pub returns-then-is_near_row-clause-inside : goal.returns-then-is_near_row-clause-inside
+returns-then-is_near_row-clause-inside c = λ i token some is. c.loop-at.invariant.inside i token some (omega (arith, c.loop-at-test.false, c.len-at-end.ensures, slice_get_within c.args.tokens.now i token is)) is
+
+pub returns-then-is_near_row-clause-row : goal.returns-then-is_near_row-clause-row
+returns-then-is_near_row-clause-row c = c.is_near_row.ensures c.if-is_near_row.true
+
+pub returns-then-is_near_row-clause-short : goal.returns-then-is_near_row-clause-short
+returns-then-is_near_row-clause-short c =
+    let v = c.loop-at.invariant in
+    let all : c.loop-at.at ≡ length c.args.tokens.now = omega (arith, v.from, c.loop-at-test.false, c.len-at-end.ensures, c.loop-at.auto.at-end (omega (arith, c.len-at-end.ensures, c.requires.some))) in
+    all_stand c.args.tokens.now (end_of (get_or c.args.tokens.now 0 no_token) c.args.column) c.loop-at.at c.len-count.result (c.loop-at.least + (c.loop-at.at - 1)) c.requires.some all c.len-count.ensures v.stand v.widths
+    (omega (arith, all, c.if-most-gt1000.false, c.len-count.ensures))
 
 pub returns-then-ends_row-is_own_or_trailing-clause-row : goal.returns-then-ends_row-is_own_or_trailing-clause-row
 returns-then-ends_row-is_own_or_trailing-clause-row c = λ line budget rich is.
     let v = c.loop-at.invariant in
     let at = c.loop-at.at in
-    let fits : c.loop-at.most ≤ c.args.style.now.column_limit = omega (arith, c.if-most-limit.false, c.from-limit.ensures) in
+    let fits : c.loop-at.least + (at - 1) ≤ c.args.style.now.column_limit = omega (arith, v.from, c.if-least-at.false, c.from-limit.ensures) in
     let next : suc (at - 1) ≡ at = omega (arith, v.from) in
     let left = get_or c.args.tokens.now (at - 1) no_token in
     let right = get_or c.args.tokens.now at no_token in
@@ -122,7 +128,7 @@ returns-then-ends_row-is_own_or_trailing-clause-row c = λ line budget rich is.
     let waits : is_trailing right.role ≡ true = c.ends_waiting.ensures.waits c.if-not-ends_waiting.false in
     let ends : (right.trailing_list || ends_its_row left.kind) ≡ false = ap (λ b. b || ends_its_row left.kind) (c.ends_waiting.ensures.apart c.if-not-ends_waiting.false) ∙ c.ends_waiting.ensures.goes_on c.if-not-ends_waiting.false in
     let stays = no_break c.args.style.now left right (c.requires.together at no_token (omega (arith, v.from)) (omega (arith, c.loop-at-test.true, c.len-at-end.ensures))) ends (trails right.role waits) c.requires.limit in
-    comment_ends line c.args.style.now c.args.column c.args.tokens.now None is budget (at - 1) c.loop-at.most left right (v.row line is fits) before
+    comment_ends line c.args.style.now c.args.column c.args.tokens.now None is budget (at - 1) (c.loop-at.least + (at - 1)) left right (v.row line is fits) before
     (ap (λ i. slice_get c.args.tokens.now i) next ∙ there) stays waits (omega (arith, v.from, last))
     c.requires.few rich (v.free line is (omega (arith, v.first, fits)))
 
@@ -130,7 +136,7 @@ pub returns-then-ends_row-is_own_or_trailing-clause-short : goal.returns-then-en
 returns-then-ends_row-is_own_or_trailing-clause-short c =
     let v = c.loop-at.invariant in
     let at = c.loop-at.at in
-    let fits : c.loop-at.most ≤ c.args.style.now.column_limit = omega (arith, c.if-most-limit.false, c.from-limit.ensures) in
+    let fits : c.loop-at.least + (at - 1) ≤ c.args.style.now.column_limit = omega (arith, v.from, c.if-least-at.false, c.from-limit.ensures) in
     let right = get_or c.args.tokens.now at no_token in
     let there : slice_get c.args.tokens.now at ≡ Some right = slice_get-get_or c.args.tokens.now at no_token (omega (arith, c.loop-at-test.true, c.len-at-end.ensures)) in
     let last : at + 1 ≡ length c.args.tokens.now = c.ends_waiting.ensures.last c.if-not-ends_waiting.false in

@@ -3,7 +3,7 @@ use Rattle.line_tokens.specs.Tokens.{no_token}
 use Rattle.replacements.specs.Decisions.{decided_all}
 use Rattle.layout_tables.specs.Told.{group_behind}
 use Rattle.run_layout.specs.OneRow.{row_made, width_to}
-use Rattle.run_layout.proofs.short_row.write_short_row.Given as goal
+use Rattle.run_layout.proofs.short_row.write_behind.Given as goal
 
 abbrev pub invariant-loop-at : goal.invariant-loop-at
 invariant-loop-at l = record {
