@@ -20,3 +20,4 @@ mod Passing
 mod TrailOrder
 mod Trails
 mod Descending
+pub mod Counting

@@ -374,6 +374,25 @@ const SEARCHED: &[Searched] = &[
             }],
         ),
     },
+    Searched {
+        case: Case {
+            name: "a line of more tokens than the budget",
+            limit: Some(30),
+            budget: 6,
+            input: b"a ;\n\n\nf( a,\n  b);",
+            output: b"a;\n\nf( a,\n  b);",
+            ..LLVM
+        },
+        noted: (
+            1,
+            0,
+            &[Report {
+                run: 5,
+                line: 4,
+                cells: 7,
+            }],
+        ),
+    },
 ];
 
 #[test]

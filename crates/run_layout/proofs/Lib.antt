@@ -16,3 +16,4 @@ pub mod NearRows
 pub mod WaitingComments
 pub mod Views
 pub mod Failed
+pub mod OpenFrames

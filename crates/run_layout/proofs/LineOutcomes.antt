@@ -92,6 +92,16 @@ module _ (style : Style) (budget : ℕ) (arena : Contents) (ids : List ℕ) (tok
     told_is = refl;
   }
 
+  -- a line that is past its budget whatever is decided of its gaps
+  pub past_laid : (cells : ℕ) (after : List (Option Slot)) → IsOpen plan ids line → 0 < style.column_limit → ((l : Line) → l.tokens ≡ of_line line toks → IsOver l budget cells)
+      → after ≡ decided_all plan (first_made style arena ids line ∷ reported_made style arena ids line) → IsLaid style budget arena ids toks plan line after (laid.Over cells)
+  past_laid cells after opens limit over made = record {
+    outcome = Over cells;
+    comes = (opens, limit, over (broken_line style arena ids toks plan line) refl);
+    plan_is = made;
+    told_is = refl;
+  }
+
   module _ (column : ℕ) (tokens : List LineTok) (fixed : List (Option Fixed)) (tell : StandForItems arena ids toks) (are : tokens ≡ of_line line toks) (column_is : column ≡ start_column style line)
       (fixed_is : fixed ≡ map (fixed_of_token arena plan) tokens) (opens : IsOpen plan ids line) where
     start_same : line_of style (start_column style line) tokens fixed ≡ broken_line style arena ids toks plan line

@@ -39,7 +39,7 @@ use Rattle.run_layout.specs.OneRow.{stays, IsOpenInside, stay_start, open_behind
 -- ## One token more
 
 -- the frames once a token is placed
-length-placed : (style : Style) (s : Layout) (gap : Gap) (brk : Bool) → length (frames_after style s gap brk) ≡ open_behind (length s.frames) gap.right
+pub length-placed : (style : Style) (s : Layout) (gap : Gap) (brk : Bool) → length (frames_after style s gap brk) ≡ open_behind (length s.frames) gap.right
 length-placed style s gap brk =
     let open_ones : List Frame = open_frames s gap in
     let top : Frame = if is_after_opener s gap then opened_frame style gap brk (start_of style s gap brk) (topmost s.base open_ones) else comma_frame style gap brk (topmost s.base open_ones) in

@@ -9,6 +9,7 @@ mod broken;
 mod laid;
 mod laws;
 mod lines;
+mod past_budget;
 mod report;
 mod roles;
 mod row;

@@ -20,6 +20,7 @@ ghost use Rattle.run_layout.specs.Told.{IsLaid};
 
 use crate::broken::{OpenLine, write_broken};
 use crate::laid::Laid;
+use crate::past_budget::line_cells_past;
 use crate::report::{Tally, note_line};
 use crate::row::{end_of, first_start, is_open_row, write_row};
 use crate::short_row::{few_tokens, short_row, write_short_row};
@@ -299,6 +300,10 @@ fn lay_out_other_line(
 {
     if is_line_decided(layout, line, plan, segment) {
         return Ok(Laid::Unsearched);
+    }
+    if let Some(cells) = line_cells_past(layout, line, segment) {
+        report_line(layout, line, cursor, plan);
+        return Ok(Laid::Over { cells });
     }
     let end = line.last as usize + 1;
     let tokens = layout.tokens.between(line.first as usize, end, run)?;

@@ -3,7 +3,8 @@ use Rattle.std.specs.Prelude.{IfOk, OnOk}
 use Rattle.replacements.specs.declared.slot.Slot.{Slot}
 use Rattle.line_gaps.specs.OpenGaps.{IsOpen}
 use Rattle.run_layout.specs.Told.{IsLaid}
-use Rattle.run_layout.proofs.LineOutcomes.{row_laid}
+use Rattle.line_gaps.specs.InputColumns.{input_before}
+use Rattle.run_layout.proofs.LineOutcomes.{past_laid, row_laid}
 use Rattle.run_layout.proofs.Failed.{no_value, not_done}
 use Rattle.run_layout.proofs.lines.lay_out_other_line.Goals as goal
 
@@ -14,6 +15,36 @@ is_line_decided-requires c = record {
   places = c.requires.places;
   whole = c.requires.whole;
 }
+
+pub line_cells_past-requires : goal.line_cells_past-requires
+line_cells_past-requires c = record {
+  budget = c.requires.ready.budget;
+  some = c.requires.some;
+  within = omega (arith, c.requires.places, c.requires.ready.tell.as_many);
+}
+
+pub report_line-requires : goal.report_line-requires
+report_line-requires c = record {
+  tab = c.requires.ready.range.least_tab_width;
+  items = c.requires.ready.within;
+  classes = c.requires.ready.classes;
+  some = c.requires.some;
+  places = c.requires.places;
+  whole = c.requires.whole;
+  before = c.requires.before;
+  column = c.requires.column;
+}
+
+pub returns-in-Some : goal.returns-in-Some
+returns-in-Some c =
+    let layout = c.args.layout.now in
+    record {
+      laid = past_laid layout.style.now layout.budget layout.arena.now layout.view.now layout.tokens.now c.args.plan.now c.args.line.now c.in-Some.cells c.report_line.new.plan c.if-is_line_decided.ensures.no c.in-Some.ensures.limit
+          c.in-Some.ensures.over c.report_line.ensures.plan;
+      len = c.report_line.ensures.len;
+      before = omega (arith, c.report_line.ensures.place);
+      column = subst (λ k. c.report_line.new.cursor.column ≡ input_before layout.style.now layout.arena.now layout.view.now k) (sym c.report_line.ensures.place) c.report_line.ensures.column;
+    }
 
 pub between-requires : goal.between-requires
 between-requires c = record { order = omega (arith, c.requires.some); within = omega (arith, c.requires.places, c.requires.ready.tell.as_many) }
