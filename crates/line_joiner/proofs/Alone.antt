@@ -1,7 +1,7 @@
--- Lines with whose kind no row of the table begins.
-use Rattle.std.proofs.Common.{◌≡◌, ◌∙◌, ℕ, suc, ◌+◌, ◌-◌, ◌<◌, Bool, true, false, Option, refl, List, [], ◌∷◌, ◌++◌, drop, length, get_or, take, sym, ap, arith, ◌⊎◌, inl, inr}
+-- Lines to which none is joined.
+use Rattle.std.proofs.Common.{◌≡◌, ◌∙◌, ℕ, suc, ◌+◌, ◌-◌, ◌<◌, ◌≤◌, Bool, true, false, Option, refl, List, [], ◌∷◌, ◌++◌, drop, length, get_or, take, sym, ap, arith, ◌⊎◌, inl, inr}
 use Rattle.std.proofs.lemmas.List.{append_assoc, drop_more, get_or_default}
-use Rattle.std.specs.Prelude.{All, if◌then◌else◌, ◌&&◌, ◌||◌, nat_lt, not}
+use Rattle.std.specs.Prelude.{if◌then◌else◌, ◌&&◌, ◌||◌, nat_lt, not}
 use Rattle.std.proofs.lemmas.Bool.{or_parts}
 use Rattle.line_tokens.specs.declared.LineTok.{LineTok}
 use Rattle.line_tokens.specs.declared.line.ULine.{ULine}
@@ -97,14 +97,18 @@ stays_alone style classes toks head rest none =
     (between label_head (not attached) style.allow_short_case_labels_on_a_single_line label.0)))
     (deep enum_head attached (begins_with_close (behind_enumerators rest)) style.allow_short_enums_on_a_single_line label.1)
 
--- none is joined to such a line
-none_joined : (style : Style) (classes : List TokenClass) (toks : List LineTok) (fixed : List (Option Fixed)) (head : ULine) (rest : List ULine) → heads_row style head.kind ≡ false → lines_joined style classes toks fixed head rest ≡ 0
-none_joined style classes toks fixed head rest none =
-    ap (λ (n : ℕ). if may_join style toks fixed head (take (n - 1) rest) then n - 1 else 0) (stays_alone style classes toks head rest none) ∙ either (may_join style toks fixed head (take 0 rest))
+-- none is joined to a line where the table joins none
+few_joined : (style : Style) (classes : List TokenClass) (toks : List LineTok) (fixed : List (Option Fixed)) (head : ULine) (rest : List ULine) → lines_by_table style classes toks head rest ≤ 1 → lines_joined style classes toks fixed head rest ≡ 0
+few_joined style classes toks fixed head rest few =
+    let none : lines_by_table style classes toks head rest - 1 ≡ 0 = omega (arith, few) in
+    ap (λ (n : ℕ). if may_join style toks fixed head (take n rest) then n else 0) none ∙ either (may_join style toks fixed head (take 0 rest))
   where
     either : (b : Bool) → ◌≡◌ {A = ℕ} (if b then 0 else 0) 0
     either true = refl
     either false = refl
+
+none_joined : (style : Style) (classes : List TokenClass) (toks : List LineTok) (fixed : List (Option Fixed)) (head : ULine) (rest : List ULine) → heads_row style head.kind ≡ false → lines_joined style classes toks fixed head rest ≡ 0
+none_joined style classes toks fixed head rest none = few_joined style classes toks fixed head rest (omega (arith, stays_alone style classes toks head rest none))
 
 -- it stays as it is
 pub alone_at : (style : Style) (classes : List TokenClass) (toks : List LineTok) (fixed : List (Option Fixed)) (lines : List ULine) (i : ℕ) (d : ULine) → i < length lines → heads_row style (get_or lines i d).kind ≡ false
@@ -143,17 +147,21 @@ joined_pushed style classes toks fixed skip more lines i d old new all within no
 either_side : (at i : ℕ) → i < at + 1 → (i < at) ⊎ (i ≡ at)
 either_side at i high = grind arith
 
+-- the table joins no line to one of these
+abbrev pub AreAlone : Style → List TokenClass → List LineTok → List ULine → ℕ → Type 0
+AreAlone style classes toks lines count = (i : ℕ) (d : ULine) → i < count → lines_by_table style classes toks (get_or lines i d) (drop (suc i) lines) ≤ 1
+
 -- one more of them
-pub one_more_alone : (style : Style) (lines : List ULine) (at : ℕ) (e : ULine) → at < length lines → heads_row style (get_or lines at e).kind ≡ false → ((i : ℕ) (d : ULine) → i < at → heads_row style (get_or lines i d).kind ≡ false)
-    → (i : ℕ) (d : ULine) → i < at + 1 → heads_row style (get_or lines i d).kind ≡ false
-one_more_alone style lines at e within alone before i d high = elim (either_side at i high) [
+pub one_more_alone : (style : Style) (classes : List TokenClass) (toks : List LineTok) (lines : List ULine) (at : ℕ) (e : ULine) → at < length lines → lines_by_table style classes toks (get_or lines at e) (drop (suc at) lines) ≤ 1
+    → AreAlone style classes toks lines at → AreAlone style classes toks lines (at + 1)
+one_more_alone style classes toks lines at e within alone before i d high = elim (either_side at i high) [
   | inl earlier ↦ before i d earlier
   | inr here ↦ rw (here, get_or_default lines at d e within) alone
 ]
 
 -- where all lines are such, they stay as they are
-pub stay_alone : (style : Style) (classes : List TokenClass) (toks : List LineTok) (fixed : List (Option Fixed)) (lines : List ULine) → All (λ (line : ULine). heads_row style line.kind ≡ false) lines → joined style classes toks fixed lines ≡ lines
+pub stay_alone : (style : Style) (classes : List TokenClass) (toks : List LineTok) (fixed : List (Option Fixed)) (lines : List ULine) → AreAlone style classes toks lines (length lines) → joined style classes toks fixed lines ≡ lines
 stay_alone style classes toks fixed [] none = refl
 stay_alone style classes toks fixed (line ∷ lines) none =
-    ap (λ (n : ℕ). merged line (take n lines) ∷ joined_from style classes toks fixed n lines) (none_joined style classes toks fixed line lines (none 0 line (omega arith)))
+    ap (λ (n : ℕ). merged line (take n lines) ∷ joined_from style classes toks fixed n lines) (few_joined style classes toks fixed line lines (none 0 line (omega arith)))
     ∙ ap (λ (ls : List ULine). line ∷ ls) (stay_alone style classes toks fixed lines (λ i d within. none (suc i) d (omega (arith, within))))

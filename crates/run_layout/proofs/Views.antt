@@ -84,9 +84,11 @@ rows_joined style arena ids toks plan lines rows classes fixed classes_is fixed_
     ∙ ap (λ (fs : List (Option Fixed)). joined style (classes_of arena ids) toks fs lines) fixed_is)
 
 -- where none is joined, whatever is decided, they stay as they are
-pub alone_joined : (style : Style) (arena : Contents) (ids : List ℕ) (toks : List LineTok) (plan : List (Option Slot)) (lines : List ULine)
-    → ((classes : List TokenClass) (toks : List LineTok) (fixed : List (Option Fixed)) → joined style classes toks fixed lines ≡ lines) → lines ≡ joined_lines style arena ids toks plan lines
-alone_joined style arena ids toks plan lines alone = sym (alone (classes_of arena ids) toks (map (fixed_of_id arena plan) ids))
+pub alone_joined : (style : Style) (arena : Contents) (ids : List ℕ) (toks : List LineTok) (plan : List (Option Slot)) (lines : List ULine) (classes : List TokenClass) → classes ≡ classes_of arena ids
+    → ((fixed : List (Option Fixed)) → joined style classes toks fixed lines ≡ lines) → lines ≡ joined_lines style arena ids toks plan lines
+alone_joined style arena ids toks plan lines classes classes_is alone =
+    let fixed = map (fixed_of_id arena plan) ids in
+    sym (alone fixed) ∙ ap (λ (cs : List TokenClass). joined style cs toks fixed lines) classes_is
 
 pub view_laid : (style : Style) (budget : ℕ) (arena : Contents) (ids : List ℕ) (toks : List LineTok) (run : ℕ) (plan : List (Option Slot)) (lines rows : List ULine)
     (laid_plan final : List (Option Slot)) (before after : Tally) → rows ≡ joined_lines style arena ids toks plan lines

@@ -36,7 +36,7 @@ fn joined_lines<'r>(
     ensures cut { IfOk result (λ rows. CutPlaces 0 (length layout.now.tokens.now) rows.now) }
 {
     let style = layout.style;
-    if are_alone(style, lines) {
+    if are_alone(style, layout.classes, lines, layout.tokens) {
         return Ok(lines);
     }
     let fixed = fixed_of_view(layout.arena, layout.view, plan, run)?;

@@ -11,7 +11,8 @@ join_of_classes-requires-clause-same c =
 
 pub returns-then-are_alone-clause-lines : goal.returns-then-are_alone-clause-lines
 returns-then-are_alone-clause-lines c =
-    alone_joined c.args.layout.now.style.now c.args.layout.now.arena.now c.args.layout.now.view.now c.args.layout.now.tokens.now c.args.plan.now c.args.lines.now (c.are_alone.ensures c.if-are_alone.true)
+    alone_joined c.args.layout.now.style.now c.args.layout.now.arena.now c.args.layout.now.view.now c.args.layout.now.tokens.now c.args.plan.now c.args.lines.now c.args.layout.now.classes.now c.requires.classes
+    (c.are_alone.ensures c.if-are_alone.true)
 
 pub returns-clause-lines : goal.returns-clause-lines
 returns-clause-lines c =
