@@ -217,7 +217,7 @@ fn refuses_what_has_no_arena(rt: HostRuntime) {
     }
 }
 
-/// The items of a text take no more memory than they need.
+/// Room for all items of a text and its comments is asked for at once, and it is at most 64 bytes a byte.
 #[test]
 fn takes_memory_for_its_items_alone(rt: HostRuntime) {
     let rt = &rt;
@@ -225,6 +225,6 @@ fn takes_memory_for_its_items_alone(rt: HostRuntime) {
     let commas = repeated(rt, rt.alloc(), &[(b",", 100_000)]);
     let arena = store(rt, &bump, commas.as_slice());
     same(rt, "how many items", arena.len(), 100_000);
-    let few = bump.allocated_bytes() < 100_000 * 32;
+    let few = bump.allocated_bytes() <= 100_000 * 64;
     same(rt, "few bytes", few, true);
 }
