@@ -92,9 +92,10 @@ fn entries_of<'a>(bump: &'a Bump, text: &[u8], dialect: Dialect) -> Result<Kept<
     ensures fault { IfErr result (IsCause dialect text.now) }
 {
     // Each item has a byte at least, and a comment has two. Memory that holds none is never touched.
-    let mut entries = Vec::with_capacity(bump, text.len())?;
+    // The largest room comes last: a bump asks for no less than twice what it asked for before.
+    let mut hashes = Vec::with_capacity(bump, text.len() / 16)?;
     let mut comments = Vec::with_capacity(bump, text.len() / 2)?;
-    let mut hashes = Vec::new(bump);
+    let mut entries = Vec::with_capacity(bump, text.len())?;
     let mut lexer = Lexer::new(text, dialect);
     loop {
         let gap = lexer.at() as u32;
