@@ -20,7 +20,7 @@ loop-lexeme-init c = record {
       (subst (λ left. IsKeptUpTo c.args.dialect c.args.text.now left c.in_ok-entries.entries.items (mark_len c.args.text.now)) (sym c.new-lexer.ensures.left)
       (rw c.in_ok-entries.ensures.items (kept_begun c.args.dialect c.args.text.now)));
   remarks = c.in_ok-comments.ensures.items ∙ sym (ap (comments_kept 0) c.in_ok-entries.ensures.items);
-  marks = c.new-hashes.ensures.items ∙ sym (ap (λ es. hashes_from 0 (kept_by_all c.args.text.now es)) c.in_ok-entries.ensures.items);
+  marks = c.in_ok-hashes.ensures.items ∙ sym (ap (λ es. hashes_from 0 (kept_by_all c.args.text.now es)) c.in_ok-entries.ensures.items);
 }
 
 pub note_comment-requires : goal.note_comment-requires
