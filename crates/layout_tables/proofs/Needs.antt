@@ -1,8 +1,7 @@
 -- What is known of a gap from its rule.
-use Rattle.std.proofs.Common.{◌≡◌, ◌∙◌, ◌<◌, arith, ◌==◌, ◌+◌, ℕ, Bool, true, false, ◌||◌, ◌&&◌, not, refl, ap, eq-eqb}
+use Rattle.std.proofs.Common.{◌≡◌, ◌∙◌, ◌==◌, ◌+◌, ℕ, Bool, true, false, ◌||◌, ◌&&◌, not, refl, ap, eq-eqb}
 use Rattle.std.specs.Prelude.{if◌then◌else◌}
-use Rattle.std.proofs.lemmas.Bool.{ne_eqb}
-use Rattle.line_tokens.specs.Roles.{is_own, is_trailing, is_decl_name, is_call_or_decl_open, is_ctrl_or_group_open, is_comma_or_semi, is_list_open, is_binary, is_ternary, is_round_close, is_member, is_asm_colon}
+use Rattle.line_tokens.specs.Roles.{is_own, is_decl_name, is_call_or_decl_open, is_ctrl_or_group_open, is_comma_or_semi, is_list_open, is_binary, is_ternary, is_round_close, is_member, is_asm_colon}
 use Rattle.line_tokens.specs.declared.LineTok.{LineTok}
 use Rattle.style_table.specs.declared.style.Style.{Style}
 use Rattle.layout_tables.specs.declared.penalties.Break.{Break}
@@ -89,29 +88,3 @@ must_of_gap style left right =
     (mild_row (is_round_close l && is_member r) (costs 150)
     (mild_row (is_asm_colon r && not (is_asm_colon l)) (costs 1) none))))))))))))))
     ∙ ap (λ needs. needs || ((style.column_limit == 0) && not (right.gap.lines == 0))) (as_asked right.directive (ends_its_row left.kind) (is_own r) right.trailing_list)
-
-no_need : (directive ends own trailing lists unlimited apart : Bool) → not (((directive || lists) || ends) || (own || trailing)) ≡ true → unlimited ≡ false
-    → (((directive || lists) || ends) || own) || (unlimited && apart) ≡ false
-no_need false false false trailing false false apart h u = refl
-no_need false false false trailing false true apart h u = cc
-no_need true ends own trailing lists unlimited apart h u = cc
-no_need false true own trailing false unlimited apart h u = cc
-no_need false ends own trailing true unlimited apart h u = cc
-no_need false false true trailing false unlimited apart h u = cc
-
-not_placed : (directive ends own trailing lists : Bool) → not (((directive || lists) || ends) || (own || trailing)) ≡ true → trailing ≡ false
-not_placed directive ends own false lists h = refl
-not_placed true ends own true lists h = cc
-not_placed false ends own true true h = cc
-not_placed false true own true false h = cc
-not_placed false false true true false h = cc
-not_placed false false false true false h = cc
-
--- where nothing about two tokens makes a row end between them, and a limit of columns is there, none does
-pub needs_no_break : (style : Style) (left right : LineTok) → not (((right.directive || right.trailing_list) || ends_its_row left.kind) || (is_own right.role || is_trailing right.role)) ≡ true
-    → 0 < style.column_limit → (gap_rule style left right).must ≡ false
-needs_no_break style left right h limit =
-    must_of_gap style left right ∙ no_need right.directive (ends_its_row left.kind) (is_own right.role) (is_trailing right.role) right.trailing_list (style.column_limit == 0) (not (right.gap.lines == 0)) h (ne_eqb style.column_limit 0 (λ e. absurd (omega (arith, e, limit))))
-
-pub waits_for_none : (left right : LineTok) → not (((right.directive || right.trailing_list) || ends_its_row left.kind) || (is_own right.role || is_trailing right.role)) ≡ true → is_trailing right.role ≡ false
-waits_for_none left right h = not_placed right.directive (ends_its_row left.kind) (is_own right.role) (is_trailing right.role) right.trailing_list h

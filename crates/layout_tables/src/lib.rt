@@ -9,5 +9,5 @@ mod penalties;
 mod spacing;
 
 pub use indents::{empty_lines, start_column};
-pub use penalties::{GapRule, gap_rule, must_break, stands_behind};
+pub use penalties::{GapRule, gap_rule, must_break};
 pub use spacing::{RowBlanks, keeps_apart, spaces_before};

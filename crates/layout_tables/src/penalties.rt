@@ -4,7 +4,7 @@
 //! top, and the first row whose condition holds decides.
 
 ghost use Rattle.std.specs.Prelude.{◌≡◌, ◌<◌, ◌^◌, ◌==◌, ◌||◌, ◌&&◌, not, IsTrue, false};
-ghost use Rattle.line_tokens.specs.Roles.{is_own, is_trailing};
+ghost use Rattle.line_tokens.specs.Roles.{is_own};
 ghost use Rattle.style_table.specs.declared.style.Style.{Style};
 ghost use Rattle.layout_tables.specs.Breaks.{ends_its_row, is_string, is_all, is_behind, is_never_first, is_never_last};
 ghost use Rattle.layout_tables.specs.Breaks.{is_assignment_gap, operator_side, ternary_side, break_by_table, cost_in};
@@ -251,24 +251,4 @@ pub fn must_break(style: &Style, left: &LineTok, right: &LineTok) -> bool
     ensures { result ≡ (gap_rule style.now left.now right.now).must }
 {
     ends_by_first_rows(style, left, right)
-}
-
-/// A comment that begins its row or ends it.
-#[inline(always)]
-fn is_own_or_trailing(role: Role) -> bool
-    ensures { result ≡ (is_own role || is_trailing role) }
-{
-    matches!(role, Role::Own | Role::Trailing)
-}
-
-/// Whether no comment and no directive, nor the end of a list, keeps the second of two tokens from standing behind the
-/// first in its row. Where there is a limit of columns, nothing else makes a row end there.
-#[inline(always)]
-pub fn stands_behind(left: &LineTok, right: &LineTok) -> bool
-    ensures stays { IsTrue result → (style : Style) → 0 < style.column_limit →
-        (gap_rule style left.now right.now).must ≡ false }
-    ensures places { IsTrue result → is_trailing right.now.role ≡ false }
-{
-    let waits = is_own_or_trailing(right.role);
-    !(right.directive | right.trailing_list | ends_its_row(left.kind) | waits)
 }
