@@ -15,13 +15,12 @@ abbrev pub rules_in : GapAhead → GapRules
 rules_in gap =
     record { rule = record { can = gap.can; must = gap.must; cost = gap.cost }; spaces = gap.spaces }
 
--- .. how far the token behind it moves the column where it stays, how many brackets are open
--- before it, and whether it has to stay
+-- .. how far the token behind it moves the column where it stays, how wide the row is that it begins where the gap
+-- breaks, and whether the gap has to stay
 pub record IsGapAhead (style : Style) (left right : LineTok) (fixed : Option Fixed) (gap : GapAhead) : Type 0 where
   pub rules : AreRules style left right (rules_in gap)
   pub aside : IsAsideIfLess style left right fixed gap.aside
   pub row : IsRowIfLess style left right fixed gap.row
-  pub depth : gap.depth ≡ right.depth
   pub stays : OnTrue gap.stays (HasToStay style left right fixed)
 
 -- that of the gap before each token but the first one, by how many tokens are left there

@@ -40,8 +40,6 @@ pub(crate) struct GapAhead {
     pub aside: u32,
     /// How wide the row is that the token begins where it breaks, as `width_below` tells it.
     pub row: u32,
-    /// How many brackets are open before that token.
-    pub depth: u32,
     /// The blanks in it where it doesn't break.
     pub spaces: u8,
     /// It may break, as the tables say.
@@ -157,7 +155,6 @@ fn gap_ahead(
         width: stretch.width,
         aside,
         row,
-        depth: right.depth,
         spaces: rules.spaces,
         can: rules.rule.can,
         must: rules.rule.must,
@@ -177,7 +174,6 @@ fn no_gap() -> GapAhead
         width: stretch.width,
         aside: u32::MAX,
         row: u32::MAX,
-        depth: 0,
         spaces: 0,
         can: false,
         must: false,

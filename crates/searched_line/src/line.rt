@@ -344,14 +344,14 @@ impl<'a> SearchedLine<'a> {
         if !brk {
             let width = self.aside(at);
             if width < u32::MAX {
-                let depth = self.gap(at).depth;
+                let depth = right.depth;
                 let next = step_aside(store, self.style, state, left, right, width, depth);
                 return Ok(Some(next));
             }
         } else {
             let width = self.row(at);
             if width < u32::MAX {
-                let (cost, depth) = (self.gap(at).cost, self.gap(at).depth);
+                let (cost, depth) = (self.gap(at).cost, right.depth);
                 let next = step_row(store, self.style, state, left, right, width, cost, depth);
                 return Ok(Some(next));
             }

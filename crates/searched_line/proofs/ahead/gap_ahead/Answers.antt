@@ -1,4 +1,3 @@
-use Rattle.std.proofs.Common.{refl}
 use Rattle.searched_line.proofs.ahead.gap_ahead.Goals as goal
 
 pub returns-clause-gap : goal.returns-clause-gap
@@ -6,6 +5,5 @@ returns-clause-gap c = record {
   rules = c.gap_rules-rules.ensures;
   aside = c.row_ahead-aside.ensures.aside;
   row = c.width_below-row.ensures c.args.decision c.row_ahead-aside.ensures.aside;
-  depth = refl;
   stays = c.has_to_stay.ensures;
 }

@@ -16,9 +16,6 @@ pub step_aside-next-requires-clause-aside : goal.step_aside-next-requires-clause
 step_aside-next-requires-clause-aside c =
     undecided _ c.args.self.now.style _ _ _ _ (ap (λ (l : Line). l.style) c.self.view_is) (c.aside-width.ensures _ _ c.token_before-left.ensures c.token-right.ensures (omega (arith, c.if-width-lt4294967295.true)))
 
-pub step_aside-next-requires-clause-depth : goal.step_aside-next-requires-clause-depth
-step_aside-next-requires-clause-depth c = (c.gap.ensures _ _ c.token_before-left.ensures c.token-right.ensures).depth
-
 pub returns-then-width-lt4294967295-clause-gives : goal.returns-then-width-lt4294967295-clause-gives
 returns-then-width-lt4294967295-clause-gives c =
     let layout = layout_in c.args.store.now c.args.state.now in
@@ -37,13 +34,10 @@ step_row-next-requires-clause-row c =
 
 pub step_row-next-requires-clause-cost : goal.step_row-next-requires-clause-cost
 step_row-next-requires-clause-cost c =
-    ap (λ (r : GapRule). r.cost) (ruled_by _ c.args.self.now.style _ _ _ (ap (λ (l : Line). l.style) c.self.view_is) (c.gap-then-width-lt4294967295-2.ensures _ _ c.token_before-left.ensures c.token-right.ensures).rules).rule
+    ap (λ (r : GapRule). r.cost) (ruled_by _ c.args.self.now.style _ _ _ (ap (λ (l : Line). l.style) c.self.view_is) (c.gap.ensures _ _ c.token_before-left.ensures c.token-right.ensures).rules).rule
 
 pub step_row-next-requires-clause-small : goal.step_row-next-requires-clause-small
-step_row-next-requires-clause-small c = (c.gap-then-width-lt4294967295-2.ensures _ _ c.token_before-left.ensures c.token-right.ensures).rules.small
-
-pub step_row-next-requires-clause-depth : goal.step_row-next-requires-clause-depth
-step_row-next-requires-clause-depth c = (c.gap-then-width-lt4294967295-2-2.ensures _ _ c.token_before-left.ensures c.token-right.ensures).depth
+step_row-next-requires-clause-small c = (c.gap.ensures _ _ c.token_before-left.ensures c.token-right.ensures).rules.small
 
 pub returns-then-width-lt4294967295-2-clause-gives : goal.returns-then-width-lt4294967295-2-clause-gives
 returns-then-width-lt4294967295-2-clause-gives c =
