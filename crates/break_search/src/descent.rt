@@ -24,10 +24,10 @@ use line_state::{NoMemory, cells_in};
 use searched_line::SearchedLine;
 
 /// How many tokens a line has at most that is tried so. Nearly all longer ones take more turns than they are given.
-const MOST_TOKENS: usize = 64;
+const MOST_TOKENS: usize = 48;
 
 /// How many turns are taken at most, for each token. Most lines take one or two.
-const TURNS_A_TOKEN: usize = 4;
+const TURNS_A_TOKEN: usize = 5;
 
 /// How often the bound rises at most. Few lines are told where it rises again.
 const MOST_RISES: u32 = 1;

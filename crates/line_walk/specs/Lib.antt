@@ -1,1 +1,2 @@
+pub mod Indents
 pub mod Starts

@@ -1,87 +1,21 @@
-//! The layouts that given choices pass through.
+//! Choices that break only where they have to.
 
-ghost use Rattle.std.specs.Prelude.{◌≡◌, ◌-◌, ◌*◌, ◌<◌, ◌≤◌, Some, length, slice_get, IfOk, OnOk};
-ghost use Rattle.line_state.specs.declared.gap.Gap.{Gap};
-ghost use Rattle.line_state.specs.Layout.{layout_of, start_of};
+ghost use Rattle.std.specs.Prelude.{◌≡◌, ◌*◌, ◌<◌, ◌≤◌, length, IfOk};
 ghost use Rattle.style_table.specs.Range.{IsInRange};
-ghost use Rattle.line_tokens.specs.declared.LineTok.{LineTok};
-ghost use Rattle.layout_tables.specs.Spaces.{spaces_before};
-ghost use Rattle.line_state.specs.Line.{first_layout, gap_at};
 ghost use Rattle.line_state.specs.StoredStates.{layout_in, state_in};
 ghost use Rattle.frame_store.specs.Store.{IsIn};
 ghost use Rattle.searched_line.specs.Searched.{IsSearchable, line_of};
 ghost use Rattle.line_walk.specs.Starts.{IsAdmissible, MayStay};
-ghost use Rattle.searched_line.specs.Successors.{IsNextState, LeadsOn, LeadsTo};
+ghost use Rattle.searched_line.specs.Successors.{IsNextState};
 
 use bumpalo::Bump;
 use bumpalo::collections::into_bump_slice;
 use frame_store::{FrameStore, NodeState};
-use layout_tables::spaces_before;
-use line_state::{NoMemory, State, lay, start};
+use line_state::NoMemory;
 use line_tokens::{Fixed, LineTok};
-use searched_line::{SearchedLine, decision_of, token_at};
+use searched_line::SearchedLine;
 use std::alloc::Global;
 use style_table::Style;
-
-/// The state of a line's first token, as far as its layout goes.
-///
-/// # Errors
-///
-/// `NoMemory` where memory ran out.
-pub fn lay_first(
-    alloc: Global,
-    style: &Style,
-    line: &[LineTok],
-    column: u32,
-    fixed: &[Option<Fixed>],
-) -> Result<State, NoMemory>
-    requires { IsSearchable (line_of style.now column line.now fixed.now) }
-    ensures { IfOk result (λ state. layout_of state ≡ first_layout (line_of style.now column line.now fixed.now)) }
-{
-    let mut state = start(alloc, style, column);
-    let token = token_at(line, 0);
-    let decision = decision_of(fixed, 0);
-    let spaces = spaces_before(style, token, token);
-    lay(style, &mut state, token, token, decision, spaces, true)?;
-    Ok(state)
-}
-
-/// Takes an admissible choice, as far as the layout goes, and tells where its token starts. The table was asked of the
-/// blanks in the gap before.
-///
-/// # Errors
-///
-/// `NoMemory` where memory ran out.
-#[inline(always)]
-pub fn lay_next(
-    style: &Style,
-    line: &[LineTok],
-    column: u32,
-    fixed: &[Option<Fixed>],
-    state: &mut State,
-    spaces: u8,
-    brk: bool,
-) -> Result<u32, NoMemory>
-    requires line { IsSearchable (line_of style.now column line.now fixed.now) }
-    requires some { 0 < state.old.index }
-    requires next { state.old.index < length line.now }
-    requires leads { LeadsOn (line_of style.now column line.now fixed.now) (layout_of state.old) brk }
-    requires spaces { (left right : LineTok) → slice_get line.now (state.old.index - 1) ≡ Some left →
-        slice_get line.now state.old.index ≡ Some right → spaces ≡ spaces_before style.now left right }
-    ensures start { IfOk result (λ start.
-        (gap : Gap) → gap_at (line_of style.now column line.now fixed.now) (layout_of state.old).index ≡ Some gap →
-        start ≡ start_of style.now (layout_of state.old) gap brk) }
-    ensures next { OnOk result
-        (LeadsTo (line_of style.now column line.now fixed.now) (layout_of state.old) brk (layout_of state.new)) }
-{
-    let _ = column;
-    let at = state.index as usize;
-    let left = token_at(line, at - 1);
-    let right = token_at(line, at);
-    let decision = decision_of(fixed, at);
-    let start = lay(style, state, left, right, decision, spaces, brk)?;
-    Ok(start)
-}
 
 /// The next state and its choice, which breaks only where the gap can't stay.
 fn least_next<'r>(

@@ -9,7 +9,6 @@ use Rattle.line_state.specs.Choices.{Leads}
 use Rattle.style_table.specs.declared.style.Style.{Style}
 use Rattle.line_tokens.specs.declared.LineTok.{LineTok}
 use Rattle.line_tokens.specs.declared.Fixed.{Fixed}
-use Rattle.layout_tables.specs.Spaces.{spaces_before}
 use Rattle.line_state.specs.declared.gap.Gap.{Gap}
 use Rattle.line_state.specs.Layout.{Layout, is_some_decision, layout_after, start_of}
 use Rattle.line_state.specs.Line.{Line, Step, decision_at, gap_at, gaps, joined, first_layout}
@@ -111,15 +110,6 @@ pub write_ends : (l : Line) (line : ULine) (items : List ℕ) (breaks : List Boo
 write_ends l line items breaks plan now layout at w all =
     let none : drop at breaks ≡ [] = drop_of_length-le breaks all in
     ap (λ (bs : List Bool). decided_all now (inside_made line items l layout bs)) (sym none) ∙ w.rest
-
--- the table's blanks before the next token
-pub blanks_there : (style : Style) (tokens : List LineTok) (index at : ℕ) (left right : LineTok) (spaces : ℕ) → index ≡ at + 1 → slice_get tokens at ≡ Some left → slice_get tokens (at + 1) ≡ Some right → spaces ≡ spaces_before style left right
-    → (one other : LineTok) → slice_get tokens (index - 1) ≡ Some one → slice_get tokens index ≡ Some other → spaces ≡ spaces_before style one other
-blanks_there style tokens index at left right spaces here a b is one other at_one at_other =
-    let before : index - 1 ≡ at = omega (arith, here) in
-    let left_is : left ≡ one = same_some left one (sym a ∙ (ap (λ i. slice_get tokens i) (sym before) ∙ at_one)) in
-    let right_is : right ≡ other = same_some right other (sym b ∙ (ap (λ i. slice_get tokens i) (sym here) ∙ at_other)) in
-    is ∙ (ap (λ (x : LineTok). spaces_before style x right) left_is ∙ ap (λ (x : LineTok). spaces_before style one x) right_is)
 
 -- the token at a place is of an item within the plan
 pub token_within : (tokens : List LineTok) (count at : ℕ) (token : LineTok) → All (λ t. t.id.0 < count) tokens → slice_get tokens at ≡ Some token → token.id.0 < count

@@ -2,10 +2,11 @@
 
 ghost use Rattle.std.specs.Prelude.{◌≡◌, ◌||◌, ◌+◌, ◌<◌, ◌^◌, All, None, OnOk, length, map, if◌then◌else◌};
 ghost use Rattle.style_table.specs.Range.{IsInRange};
-ghost use Rattle.line_state.specs.Layout.{is_some_decision, layout_of};
+ghost use Rattle.line_state.specs.Layout.{is_some_decision};
 ghost use Rattle.line_state.specs.Line.{first_layout};
 ghost use Rattle.searched_line.specs.Searched.{IsSearchable, line_of};
 ghost use Rattle.layout_tables.specs.Spaces.{spaces_before};
+ghost use Rattle.line_walk.specs.Indents.{TellStarts};
 ghost use Rattle.line_walk.specs.Starts.{IsAdmissible};
 ghost use Rattle.layout_tables.specs.Indents.{start_column};
 ghost use Rattle.layout_tables.specs.Told.{TellBlanks};
@@ -17,9 +18,8 @@ ghost use Rattle.run_layout.specs.Ready.{IsOpenLine, IsReady};
 
 use layout_tables::{RowBlanks, empty_lines, start_column};
 use line_gaps::{ViewLayout, decide_first, token_at};
-use line_state::State;
 use line_tokens::{Fixed, LineTok, NoMemory, ULine};
-use line_walk::{lay_first, lay_next};
+use line_walk::TokenStarts;
 use replacements::{Decision, Plan};
 use style_table::Style;
 
@@ -81,7 +81,8 @@ fn decide_open(
     }
 }
 
-/// Decides the open gaps inside a line, by admissible choices. The state, that of the first token, walks along them.
+/// Decides the open gaps inside a line, by admissible choices. `starts` is told behind the first token, and walks along
+/// them.
 fn write_breaks(
     style: &Style,
     blanks: &RowBlanks,
@@ -90,13 +91,13 @@ fn write_breaks(
     column: u32,
     fixed: &[Option<Fixed>],
     breaks: &[bool],
-    state: &mut State,
+    starts: &mut TokenStarts,
     plan: &mut Plan<'_>,
 ) -> Result<(), NoMemory>
     requires tell { TellBlanks style.now blanks.now.of_group }
     requires line { IsSearchable (line_of style.now column tokens.now fixed.now) }
     requires admissible { IsAdmissible (line_of style.now column tokens.now fixed.now) breaks.now }
-    requires first { layout_of state.old ≡ first_layout (line_of style.now column tokens.now fixed.now) }
+    requires first { TellStarts style.now starts.old (first_layout (line_of style.now column tokens.now fixed.now)) }
     requires within { All (λ token. token.id.0 < length plan.old) tokens.now }
     ensures plan { OnOk result (plan.new
         ≡ decided_all plan.old (inside_made line.now (map number tokens.now)
@@ -104,13 +105,14 @@ fn write_breaks(
         (first_layout (line_of style.now column tokens.now fixed.now)) breaks.now)) }
     ensures len { length plan.new ≡ length plan.old }
 {
+    let _ = column;
     for at in 0..breaks.len() {
         let left = token_at(tokens, at);
         let right = token_at(tokens, at + 1);
         let spaces = blanks.before(style, left, right);
-        let brk = breaks[at];
-        let start = lay_next(style, tokens, column, fixed, state, spaces, brk)?;
-        decide_open(style, line, fixed[at + 1], right, spaces, brk, start, plan);
+        let (decision, brk) = (fixed[at + 1], breaks[at]);
+        let start = starts.next(style, left, right, decision, spaces, brk)?;
+        decide_open(style, line, decision, right, spaces, brk, start, plan);
     }
     Ok(())
 }
@@ -150,10 +152,18 @@ pub(crate) fn write_broken(
     let tokens = open_line.tokens;
     let fixed = open_line.fixed;
     let column = start_column(style, line);
-    let mut state = lay_first(layout.alloc, style, tokens, column, fixed)?;
+    let mut starts = TokenStarts::behind_first(layout.alloc, style, tokens, column, fixed)?;
     decide_first(layout, line, token_at(tokens, 0).id.0, plan);
     write_breaks(
-        style, blanks, line, tokens, column, fixed, breaks, &mut state, plan,
+        style,
+        blanks,
+        line,
+        tokens,
+        column,
+        fixed,
+        breaks,
+        &mut starts,
+        plan,
     )?;
     Ok(())
 }
