@@ -5,6 +5,7 @@ use Rattle.std.specs.Prelude.{All}
 use Rattle.std.proofs.lemmas.List.{get_or_default}
 use Rattle.std.proofs.lemmas.Option.{get_or_from_slice_get}
 use Rattle.style_table.specs.declared.style.Style.{Style}
+use Rattle.line_tokens.specs.declared.GapFacts.{GapFacts}
 use Rattle.line_tokens.specs.declared.LineTok.{LineTok}
 use Rattle.line_tokens.specs.declared.Fixed.{Fixed}
 use Rattle.line_tokens.specs.Columns.{stored_or, end_of}
@@ -19,7 +20,12 @@ use Rattle.line_tokens.specs.Tokens.{no_token}
 use Rattle.run_layout.specs.Tells.{StandForItems}
 use Rattle.line_gaps.specs.Fixed.{fixed_of_token}
 use Rattle.run_layout.specs.Broken.{of_line, broken_line, broken_made, inside_made}
-use Rattle.line_gaps.specs.Rows.{first_slot}
+use Rattle.line_gaps.specs.Rows.{first_slot, item_before, start_behind}
+use Rattle.line_gaps.proofs.FirstRows.{row_at_once}
+use Rattle.item_classes.specs.Items.{item_at}
+use Rattle.replacements.specs.declared.gap_text.Decision.{Decision}
+use Rattle.replacements.specs.declared.gap_text.Decision.TheVariants.{Lines}
+use Rattle.std.proofs.lemmas.Bool.{ne_eqb}
 use Rattle.run_layout.specs.OneRow.{AreOpenInside, IsRow, IsRowLine, row_made, stays}
 use Rattle.run_layout.proofs.BrokenLines.{get_or_of_line, length_of_line}
 use Rattle.run_layout.proofs.LineFacts.{is_row_line, line_has_numbers, row_decides}
@@ -43,6 +49,26 @@ first_number arena ids toks tokens line token tell some is at =
     let here : line.first + 0 ≡ line.first = omega arith in
     let first : slice_get (of_line line toks) 0 ≡ Some token = ap (λ (xs : List LineTok). slice_get xs 0) (sym is) ∙ at in
     ap (λ x. get_or ids x 0) (sym here) ∙ (sym (get_or_of_line line ids 0 0 (omega (arith, some))) ∙ line_has_numbers arena ids toks line tell 0 token first)
+
+-- and tells its gap
+pub first_lines : (arena : Contents) (ids : List ℕ) (toks tokens : List LineTok) (line : ULine) → StandForItems arena ids toks → line.first ≤ line.last → line.last < length ids → tokens ≡ of_line line toks
+    → (get_or tokens 0 no_token).gap.lines ≡ (item_at arena (get_or ids line.first 0)).gap.lines
+first_lines arena ids toks tokens line tell some within is =
+    let here : line.first + 0 ≡ line.first = omega arith in
+    let first : get_or tokens 0 no_token ≡ get_or toks line.first no_token =
+    ap (λ (xs : List LineTok). get_or xs 0 no_token) is ∙ (get_or_of_line line toks 0 no_token (omega (arith, some)) ∙ ap (λ x. get_or toks x no_token) here) in
+    ap (λ (t : LineTok). t.gap.lines) first ∙ ap (λ (g : GapFacts). g.lines) (tell.items line.first (omega (arith, some, within))).gap
+
+-- behind no empty line the line's first row begins at once
+pub row_slot : (style : Style) (arena : Contents) (ids : List ℕ) (line : ULine) (column : ℕ) → 0 < get_or ids line.first 0 → (item_at arena (get_or ids line.first 0)).gap.lines ≤ 1 → column ≡ start_column style line
+    → ◌≡◌ {A = Slot} (record { decision = Lines 1 column line.level; end = column }) (first_slot style arena ids line)
+row_slot style arena ids line column later near is =
+    let starts : ◌≡◌ {A = Slot} (record { decision = Lines 1 column line.level; end = column }) (record { decision = Lines 1 (start_column style line) line.level; end = start_column style line }) =
+    ap (λ x. record { decision = Lines 1 x line.level; end = x }) is in
+    let at_once = row_at_once style arena line (item_before ids line.first) (get_or ids line.first 0) (ne_eqb (get_or ids line.first 0) 0 (λ e. absurd (omega (arith, e, later)))) near in
+    let first : ◌≡◌ {A = Slot} (record { decision = Lines 1 (start_column style line) line.level; end = start_column style line }) (first_slot style arena ids line) =
+    ap (λ (d : Decision). record { decision = d; end = start_behind 0 d }) at_once in
+    starts ∙ first
 
 module _ (style : Style) (arena : Contents) (ids : List ℕ) (toks : List LineTok) (plan : List (Option Slot)) (line : ULine) (budget column : ℕ) (tokens : List LineTok) (first : Option Fixed) (token : LineTok) (tell : StandForItems arena ids toks)
     (are : tokens ≡ of_line line toks) (at : slice_get tokens 0 ≡ Some token) (inside : AreOpenInside plan tokens) (column_is : column ≡ start_column style line) (first_is : first ≡ fixed_of_token arena plan token) where

@@ -10,8 +10,10 @@ use Rattle.line_tokens.specs.declared.LineTok.{LineTok}
 use Rattle.line_tokens.specs.Tokens.{no_token}
 use Rattle.line_tokens.specs.Columns.{end_of}
 use Rattle.line_tokens.specs.Roles.{is_trailing}
+use Rattle.layout_tables.specs.Spaces.{spaces_before}
 use Rattle.replacements.specs.declared.slot.Slot.{Slot}
 use Rattle.run_layout.specs.OneRow.{IsShortRow, row_made, stay_start, width_to}
+use Rattle.run_layout.proofs.RowBounds.{one_at_most}
 use Rattle.run_layout.proofs.RowSteps.{drop_here}
 
 -- ## Columns
@@ -57,6 +59,15 @@ ends_near tokens behind count (suc i) column token short from below here within 
     let width : width_to tokens (suc i) ≡ width_to tokens i + (1 + token.last_width) = width_step tokens i token here in
     let all : width_to tokens (suc i) ≤ width_to tokens (count - 1) = width_within tokens (suc i) (count - 1) (omega (arith, below)) in
     omega (arith, within, was, width, all, short.few)
+
+-- and starts near, behind a blank at most
+pub starts_near : (style : Style) (tokens : List LineTok) (behind count at column spaces : ℕ) (left right : LineTok) → IsShortRow tokens behind count → 1 ≤ at → at < count → slice_get tokens at ≡ Some right
+    → column ≤ behind + width_to tokens (at - 1) → spaces ≡ spaces_before style left right → column + spaces + right.last_width ≤ 1000
+starts_near style tokens behind count at column spaces left right short from below here within is =
+    let near : column + 1 + right.last_width ≤ 1000 = ends_near tokens behind count at column right short from below here within in
+    let stands : is_trailing right.role ≡ false = short.stand at right (omega (arith, from)) below here in
+    let one : spaces ≤ 1 = omega (arith, is, one_at_most style left right stands) in
+    omega (arith, near, one)
 
 -- ## Behind the row
 

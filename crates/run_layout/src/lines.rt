@@ -1,20 +1,23 @@
 //! The lines of a run.
 
-ghost use Rattle.std.specs.Prelude.{◌≡◌, ◌+◌, ◌*◌, ◌^◌, ◌<◌, ◌≤◌, IfOk, OnOk, length};
+ghost use Rattle.std.specs.Prelude.{◌≡◌, ◌+◌, ◌*◌, ◌^◌, ◌<◌, ◌≤◌, IfOk, OnOk, get_or, length};
 ghost use Rattle.std.specs.Bool.{OnFalse, OnTrue};
 ghost use Rattle.style_table.specs.Range.{IsInRange};
 ghost use Rattle.item_classes.specs.Viewed.{AreWithin, classes_of};
 ghost use Rattle.item_classes.specs.Items.{TellItems};
 ghost use Rattle.line_state.specs.Line.{gaps};
 ghost use Rattle.run_layout.specs.Ready.{IsOpenLine, IsReady};
-ghost use Rattle.replacements.specs.Decisions.{decided_all};
+ghost use Rattle.replacements.specs.Decisions.{decided, decided_all};
 ghost use Rattle.line_gaps.specs.Counted.{IsCounted};
 ghost use Rattle.run_layout.specs.Broken.{broken_line, broken_made, of_line};
 ghost use Rattle.line_gaps.specs.InputColumns.{input_before};
+ghost use Rattle.line_gaps.specs.Rows.{first_slot};
+ghost use Rattle.layout_tables.specs.Indents.{start_column};
 ghost use Rattle.layout_tables.specs.Told.{TellBlanks};
 ghost use Rattle.run_layout.specs.OneRow.{IsRow, NeedNoCount, stays};
 ghost use Rattle.line_gaps.specs.OpenGaps.{AreDecided, IsOpen};
 ghost use Rattle.line_tokens.specs.Lines.{CutPlaces};
+ghost use Rattle.line_tokens.specs.Tokens.{no_token};
 ghost use Rattle.run_layout.specs.RunsLaid.{IsRunLaid};
 ghost use Rattle.run_layout.specs.Told.{IsLaid};
 
@@ -32,7 +35,42 @@ use line_gaps::{
 };
 use line_tokens::{LineTok, NoMemory, ULine};
 use line_walk::least_breaks;
-use replacements::Plan;
+use replacements::{Decision, Plan};
+use view_tokens::RowTokens;
+
+/// Decides the gap before the first item of a line that starts at this column, where the gap is open. Most have no
+/// empty line, and what stands around them isn't looked at.
+#[inline(always)]
+fn begin_row(
+    layout: &ViewLayout<'_>,
+    line: &ULine,
+    row: &RowTokens<'_>,
+    column: u32,
+    plan: &mut Plan<'_>,
+)
+    requires ready { IsReady layout.now }
+    requires row { row.now ≡ of_line line.now layout.now.tokens.now }
+    requires column { column ≡ start_column layout.now.style.now line.now }
+    requires some { line.now.first ≤ line.now.last }
+    requires places { line.now.last < length layout.now.view.now }
+    requires whole { length plan.old ≡ length layout.now.arena.now.tokens + 1 }
+    ensures plan { plan.new
+        ≡ decided plan.old (get_or row.now 0 no_token).id.0
+        (first_slot layout.now.style.now layout.now.arena.now layout.now.view.now line.now) }
+    ensures len { length plan.new ≡ length plan.old }
+{
+    let id = row.id(0);
+    if id > 0 && row.lines(0) <= 1 {
+        let decision = Decision::Lines {
+            count: 1,
+            column,
+            level: line.level,
+        };
+        let _ = plan.decide(id, decision, column);
+        return;
+    }
+    decide_first(layout, line, id, plan);
+}
 
 /// Lays out a line whose gaps are open, if it is far from the limit, as most are. Otherwise nothing is decided. The
 /// table of blanks is read for few gaps. `segment` is the number of the view's segment that was looked into last.
@@ -82,7 +120,7 @@ fn lay_out_short_row(
     let Some(count) = short_row(style, &row, column, plan) else {
         return false;
     };
-    decide_first(layout, line, id, plan);
+    begin_row(layout, line, &row, column, plan);
     write_short_row(style, blanks, &row, count, column, plan);
     true
 }

@@ -27,9 +27,9 @@ pub(crate) fn is_own_or_trailing(role: Role) -> bool
 #[derive(Clone, Copy)]
 pub(crate) struct Groups {
     /// Behind a token with this role.
-    pub behind: usize,
+    pub behind: u32,
     /// Before one. That is 0 where the roles don't tell the blanks.
-    pub before: usize,
+    pub before: u32,
 }
 
 /// The groups of a role. Both are told at once, since most tokens stand between two gaps.

@@ -8,7 +8,8 @@ ghost use Rattle.style_table.specs.Range.{IsInRange};
 ghost use Rattle.line_tokens.specs.Columns.{columns, end_of};
 ghost use Rattle.line_state.specs.Line.{Line};
 ghost use Rattle.line_tokens.specs.Tokens.{no_token};
-ghost use Rattle.replacements.specs.Decisions.{decided_all};
+ghost use Rattle.replacements.specs.Decisions.{decided, decided_all};
+ghost use Rattle.replacements.specs.declared.gap_text.Decision.TheVariants.{Spaces};
 ghost use Rattle.layout_tables.specs.Breaks.{ends_its_row};
 ghost use Rattle.layout_tables.specs.Spaces.{spaces_before};
 ghost use Rattle.layout_tables.specs.Told.{TellBlanks, group_before, group_behind};
@@ -23,7 +24,8 @@ use style_table::Style;
 use view_tokens::RowTokens;
 
 /// The column behind the token at a place that starts at a column.
-fn end_at(tokens: &RowTokens<'_>, at: usize, start: u32) -> u32
+#[inline(never)]
+fn end_of_rows(tokens: &RowTokens<'_>, at: usize, start: u32) -> u32
     requires { at < length tokens.now }
     ensures { result ≡ end_of (get_or tokens.now at no_token) start }
 {
@@ -33,6 +35,18 @@ fn end_at(tokens: &RowTokens<'_>, at: usize, start: u32) -> u32
     } else {
         start.saturating_add(extent.last_width)
     }
+}
+
+/// The same. No call is made for most tokens, which are one row.
+#[inline(always)]
+fn end_at(tokens: &RowTokens<'_>, at: usize, start: u32) -> u32
+    requires { at < length tokens.now }
+    ensures { result ≡ end_of (get_or tokens.now at no_token) start }
+{
+    if tokens.is_one_row(at) {
+        return start.saturating_add(tokens.extent(at).last_width);
+    }
+    end_of_rows(tokens, at, start)
 }
 
 /// The same, where no column passes the largest number.
@@ -45,7 +59,7 @@ fn near_end_at(tokens: &RowTokens<'_>, at: usize, start: u32) -> u32
     if tokens.is_one_row(at) {
         return start + tokens.extent(at).last_width;
     }
-    end_at(tokens, at, start)
+    end_of_rows(tokens, at, start)
 }
 
 /// At least as many columns as the first row of the token at a place takes, and as the last one: the bitwise or of two
@@ -158,16 +172,40 @@ fn one_if(holds: bool) -> u8
     if holds { 1 } else { 0 }
 }
 
-/// The blanks before a token of a row, by the groups of its role and of the one before it. Where these tell nothing the
-/// table is read, and where they tell none in a gap with bytes, whether the two items may touch.
+/// The blanks before a token of a row, where the groups of its role and of the one before it tell them, and the two
+/// items needn't be asked whether they touch. That is so for most tokens.
 #[inline(always)]
-fn spaces_at(
+fn told_at(
     style: &Style,
     blanks: &RowBlanks,
     tokens: &RowTokens<'_>,
     at: usize,
-    group: usize,
-) -> u8
+    group: u32,
+) -> Option<u8>
+    requires tell { TellBlanks style.now blanks.now.of_group }
+    requires some { 0 < at }
+    requires within { at < length tokens.now }
+    requires few { group ≤ 9 }
+    requires group { group
+        ≡ min (group_behind (get_or tokens.now (at - 1) no_token).role)
+        (group_before (get_or tokens.now at no_token).role) }
+    ensures { IfSome result (λ told. told
+        ≡ spaces_before style.now (get_or tokens.now (at - 1) no_token) (get_or tokens.now at no_token)) }
+{
+    let told = blanks.of_group[group as usize];
+    if told > 1 {
+        return None;
+    }
+    // One comparison, since whether a blank stands there is hard to foresee.
+    if one_if(!tokens.is_behind_nothing(at)) > told {
+        return None;
+    }
+    Some(told)
+}
+
+/// The blanks before a token of a row, by these groups. Where they don't tell them the table is read.
+#[inline(always)]
+fn spaces_at(style: &Style, blanks: &RowBlanks, tokens: &RowTokens<'_>, at: usize, group: u32) -> u8
     requires range { IsInRange style.now }
     requires tell { TellBlanks style.now blanks.now.of_group }
     requires some { 0 < at }
@@ -179,15 +217,10 @@ fn spaces_at(
     ensures { result
         ≡ spaces_before style.now (get_or tokens.now (at - 1) no_token) (get_or tokens.now at no_token) }
 {
-    let told = blanks.of_group[group];
-    if told > 1 {
-        return spaces_by_table(style, tokens, at);
+    match told_at(style, blanks, tokens, at, group) {
+        Some(told) => told,
+        None => spaces_by_table(style, tokens, at),
     }
-    // One comparison, since whether a blank stands there is hard to foresee.
-    if one_if(!tokens.is_behind_nothing(at)) > told {
-        return one_if(!tokens.touches(at));
-    }
-    told
 }
 
 /// Whether the first row of the token at a place doesn't pass the limit, where it starts at a column.
@@ -299,7 +332,57 @@ pub(crate) fn short_row(
     None
 }
 
-/// Decides the gaps inside a row whose first token ends at a column, up to a trailing comment that waits.
+/// Decides the gap before a token of a row that stays behind another; a trailing comment waits.
+#[inline(always)]
+fn write_stay(tokens: &RowTokens<'_>, at: usize, spaces: u32, start: u32, plan: &mut Plan<'_>)
+    requires within { at < length tokens.now }
+    requires small { (get_or tokens.now at no_token).id.0 < length plan.old }
+    ensures plan { plan.new
+        ≡ (if is_trailing (get_or tokens.now at no_token).role then plan.old
+        else decided plan.old (get_or tokens.now at no_token).id.0
+        (record { decision = Spaces spaces; end = start })) }
+    ensures len { length plan.new ≡ length plan.old }
+{
+    if !tokens.role(at).is_trailing() {
+        let _ = plan.decide(tokens.id(at), Decision::Spaces(spaces), start);
+    }
+}
+
+/// Decides the gaps of a row from a place on, where the token before it ends at a column. Trailing comments wait.
+#[inline(never)]
+fn write_from(
+    style: &Style,
+    blanks: &RowBlanks,
+    tokens: &RowTokens<'_>,
+    first: usize,
+    column: u32,
+    plan: &mut Plan<'_>,
+)
+    requires range { IsInRange style.now }
+    requires tell { TellBlanks style.now blanks.now.of_group }
+    requires some { 0 < first }
+    requires place { first ≤ length tokens.now }
+    requires within { All (λ token. token.id.0 < length plan.old) tokens.now }
+    ensures plan { plan.new
+        ≡ decided_all plan.old (row_made style.now column (get_or tokens.now (first - 1) no_token)
+        (drop first tokens.now)) }
+    ensures len { length plan.new ≡ length plan.old }
+{
+    let mut behind = groups_of(tokens.role(first - 1)).behind;
+    let mut column = column;
+    for at in first..tokens.len() {
+        let groups = groups_of(tokens.role(at));
+        let group = behind.min(groups.before);
+        let spaces = u32::from(spaces_at(style, blanks, tokens, at, group));
+        let start = column.saturating_add(spaces);
+        write_stay(tokens, at, spaces, start, plan);
+        column = end_at(tokens, at, start);
+        behind = groups.behind;
+    }
+}
+
+/// Decides the gaps inside a row whose first token ends at a column, up to a trailing comment that waits. No call is
+/// made up to the first token that isn't one row, or whose blanks the roles don't tell.
 #[inline(always)]
 fn write_behind(
     style: &Style,
@@ -319,14 +402,22 @@ fn write_behind(
     ensures len { length plan.new ≡ length plan.old }
 {
     let mut behind = groups_of(tokens.role(0)).behind;
-    let mut column = column;
+    // An entry has room for such columns, so that none is asked whether it has.
+    let mut column = column as u16;
     for at in 1..count {
         let groups = groups_of(tokens.role(at));
         let group = behind.min(groups.before);
-        let spaces = u32::from(spaces_at(style, blanks, tokens, at, group));
-        let start = column + spaces;
-        let _ = plan.decide(tokens.id(at), Decision::Spaces(spaces), start);
-        column = near_end_at(tokens, at, start);
+        let Some(spaces) = told_at(style, blanks, tokens, at, group) else {
+            return write_from(style, blanks, tokens, at, u32::from(column), plan);
+        };
+        if !tokens.is_one_row(at) {
+            return write_from(style, blanks, tokens, at, u32::from(column), plan);
+        }
+        let start = column + u16::from(spaces);
+        let end = near_end_at(tokens, at, u32::from(start)) as u16;
+        let decision = Decision::Spaces(u32::from(spaces));
+        let _ = plan.decide(tokens.id(at), decision, u32::from(start));
+        column = end;
         behind = groups.behind;
     }
 }

@@ -3,9 +3,8 @@ use Rattle.std.proofs.lemmas.Option.{slice_get-get_or}
 use Rattle.line_tokens.specs.Columns.{end_of}
 use Rattle.line_tokens.specs.Tokens.{no_token}
 use Rattle.replacements.specs.Breaks.{fixed_by}
-use Rattle.replacements.specs.Decisions.{decided, slot_of}
+use Rattle.replacements.specs.Decisions.{slot_of}
 use Rattle.line_gaps.specs.Fixed.{fixed_of_token}
-use Rattle.line_gaps.specs.Rows.{first_slot}
 use Rattle.line_gaps.proofs.Inside.{open_told}
 use Rattle.run_layout.specs.Broken.{of_line}
 use Rattle.run_layout.proofs.LineOutcomes.{length_some}
@@ -65,22 +64,15 @@ short_row-requires c =
 pub returns-in_default-short_row : goal.returns-in_default-short_row
 returns-in_default-short_row c = record { row = tt; opens = tt; limit = tt; plan = tt; same = refl; len = refl }
 
-pub decide_first-requires : goal.decide_first-requires
-decide_first-requires c =
-    let toks = c.args.layout.now.tokens.now in
-    let tokens = c.in-Some.row in
-    let are : tokens ≡ of_line c.args.line.now toks = c.in-Some.ensures.tokens in
-    let some : 0 < length tokens = length_some toks tokens c.args.line.now are c.requires.some (omega (arith, c.requires.places, c.requires.ready.tell.as_many)) in
-    let token = get_or tokens 0 no_token in
-    let at : slice_get tokens 0 ≡ Some token = slice_get-get_or tokens 0 no_token some in
-    let number : get_or c.args.layout.now.view.now c.args.line.now.first 0 ≡ token.id.0 = first_number c.args.layout.now.arena.now c.args.layout.now.view.now toks tokens c.args.line.now token c.requires.ready.tell c.requires.some are at in
-    record {
-      classes = c.requires.ready.classes;
-      place = omega (arith, c.requires.some, c.requires.places);
-      items = c.requires.ready.within;
-      id = number ∙ sym (c.id-id.ensures no_token);
-      whole = c.requires.whole;
-    }
+pub begin_row-requires : goal.begin_row-requires
+begin_row-requires c = record {
+  ready = c.requires.ready;
+  row = c.in-Some.ensures.tokens;
+  column = c.start_column-column.ensures;
+  some = c.requires.some;
+  places = c.requires.places;
+  whole = c.requires.whole;
+}
 
 pub write_short_row-requires : goal.write_short_row-requires
 write_short_row-requires c =
@@ -91,8 +83,8 @@ write_short_row-requires c =
       range = c.requires.ready.range;
       tell = c.requires.tell;
       short = c.in-Some-short_row.ensures.short;
-      within = tokens_within c.args.layout.now.arena.now c.args.layout.now.view.now toks tokens c.args.line.now (length c.decide_first.new.plan) c.requires.ready.within c.requires.ready.tell c.requires.places
-          (c.decide_first.ensures.len ∙ c.requires.whole) are;
+      within = tokens_within c.args.layout.now.arena.now c.args.layout.now.view.now toks tokens c.args.line.now (length c.begin_row.new.plan) c.requires.ready.within c.requires.ready.tell c.requires.places
+          (c.begin_row.ensures.len ∙ c.requires.whole) are;
     }
 
 pub returns-clause-row : goal.returns-clause-row
@@ -155,13 +147,12 @@ returns-clause-plan c =
     let row =
     row_here style arena ids toks plan line c.args.layout.now.budget c.start_column-column.result tokens None token
     c.requires.ready.tell are at inside c.start_column-column.ensures first (λ l is. c.in-Some-short_row.ensures.row l c.args.layout.now.budget (c.requires.few.rich (omega (arith, some, c.len.ensures, c.if-len-few.false))) is) in
-    let made : c.decide_first.new.plan ≡ decided plan token.id.0 (first_slot style arena ids line) = c.decide_first.ensures.plan ∙ ap (λ n. decided plan n (first_slot style arena ids line)) (c.id-id.ensures no_token) in
     row_plan style arena ids toks plan line c.args.layout.now.budget c.start_column-column.result tokens None token
     c.requires.ready.tell are at inside c.start_column-column.ensures first
-    c.start_column-column.result (end_of token c.start_column-column.result) c.decide_first.new.plan c.write_short_row.new.plan some number row refl refl made c.write_short_row.ensures.plan
+    c.start_column-column.result (end_of token c.start_column-column.result) c.begin_row.new.plan c.write_short_row.new.plan some number row refl refl c.begin_row.ensures.plan c.write_short_row.ensures.plan
 
 pub returns-clause-same : goal.returns-clause-same
 returns-clause-same c = tt
 
 pub returns-clause-len : goal.returns-clause-len
-returns-clause-len c = c.write_short_row.ensures.len ∙ c.decide_first.ensures.len
+returns-clause-len c = c.write_short_row.ensures.len ∙ c.begin_row.ensures.len

@@ -1,4 +1,4 @@
-use Rattle.std.proofs.Common.{◌≡◌, ◌∙◌, ◌+◌, ◌-◌, ◌<◌, ◌≤◌, ℕ, Bool, Some, true, List, drop, get_or, length, slice_get, subst, sym, ap, arith}
+use Rattle.std.proofs.Common.{◌≡◌, ◌∙◌, ◌+◌, ◌-◌, ◌≤◌, ℕ, Bool, Some, true, List, drop, get_or, slice_get, subst, sym, ap, arith}
 use Rattle.std.specs.Prelude.{All, if◌then◌else◌}
 use Rattle.std.proofs.lemmas.Option.{slice_get-get_or}
 use Rattle.line_tokens.specs.Tokens.{no_token}
@@ -11,7 +11,7 @@ use Rattle.replacements.specs.declared.slot.Slot.{Slot}
 use Rattle.run_layout.specs.OneRow.{row_made}
 use Rattle.run_layout.proofs.RowBounds.{end_within, one_at_most}
 use Rattle.run_layout.proofs.RowSteps.{row_written}
-use Rattle.run_layout.proofs.ShortRows.{ends_near, none_stand, width_at}
+use Rattle.run_layout.proofs.ShortRows.{none_stand, starts_near, width_at}
 use Rattle.run_layout.proofs.short_row.write_behind.Goals as goal
 
 pub overflow_add-start : goal.overflow_add-start
@@ -21,34 +21,36 @@ overflow_add-start c =
     let tokens = c.args.tokens.now in
     let left = get_or tokens (at - 1) no_token in
     let right = get_or tokens at no_token in
-    let inside : at < length tokens = omega (arith, c.loop-at-test.true, c.requires.short.within) in
-    let there : slice_get tokens at ≡ Some right = slice_get-get_or tokens at no_token inside in
-    let near : c.loop-at.column + 1 + right.last_width ≤ 1000 = ends_near tokens c.args.column c.args.count at c.loop-at.column right c.requires.short v.from c.loop-at-test.true there v.near in
-    let stands = c.requires.short.stand at right (omega (arith, v.from)) c.loop-at-test.true there in
-    let one : c.from-spaces.result ≤ 1 = omega (arith, c.from-spaces.ensures, c.spaces_at.ensures, one_at_most c.args.style.now left right stands) in
-    omega (arith, near, one)
+    let there : slice_get tokens at ≡ Some right = slice_get-get_or tokens at no_token (omega (arith, c.loop-at-test.true, c.requires.short.within)) in
+    let near : c.loop-at.column + c.in-Some.spaces + right.last_width ≤ 1000 =
+    starts_near c.args.style.now tokens c.args.column c.args.count at c.loop-at.column c.in-Some.spaces left right c.requires.short v.from c.loop-at-test.true there v.near c.in-Some.ensures in
+    omega (arith, near, c.from-in-loop-at.ensures)
 
-pub near_end_at-column-requires : goal.near_end_at-column-requires
-near_end_at-column-requires c =
+pub near_end_at-end-requires-clause-near : goal.near_end_at-end-requires-clause-near
+near_end_at-end-requires-clause-near c =
     let v = c.loop-at.invariant in
     let at = c.loop-at.at in
     let tokens = c.args.tokens.now in
     let left = get_or tokens (at - 1) no_token in
     let right = get_or tokens at no_token in
-    let inside : at < length tokens = omega (arith, c.loop-at-test.true, c.requires.short.within) in
-    let there : slice_get tokens at ≡ Some right = slice_get-get_or tokens at no_token inside in
-    let near : c.loop-at.column + 1 + right.last_width ≤ 1000 = ends_near tokens c.args.column c.args.count at c.loop-at.column right c.requires.short v.from c.loop-at-test.true there v.near in
-    let stands = c.requires.short.stand at right (omega (arith, v.from)) c.loop-at-test.true there in
-    let one : c.from-spaces.result ≤ 1 = omega (arith, c.from-spaces.ensures, c.spaces_at.ensures, one_at_most c.args.style.now left right stands) in
-    omega (arith, near, one)
+    let there : slice_get tokens at ≡ Some right = slice_get-get_or tokens at no_token (omega (arith, c.loop-at-test.true, c.requires.short.within)) in
+    let near : c.loop-at.column + c.in-Some.spaces + right.last_width ≤ 1000 =
+    starts_near c.args.style.now tokens c.args.column c.args.count at c.loop-at.column c.in-Some.spaces left right c.requires.short v.from c.loop-at-test.true there v.near c.in-Some.ensures in
+    omega (arith, near, c.from-in-loop-at.ensures, c.from-in-loop-at-2.ensures)
 
-pub decide-requires : goal.decide-requires
-decide-requires c =
+pub overflow_cast-end : goal.overflow_cast-end
+overflow_cast-end c =
+    let v = c.loop-at.invariant in
     let at = c.loop-at.at in
     let tokens = c.args.tokens.now in
-    let inside : at < length tokens = omega (arith, c.loop-at-test.true, c.requires.short.within) in
-    let small = c.requires.within at no_token inside in
-    omega (arith, small, c.id.ensures no_token, c.loop-at.invariant.len)
+    let left = get_or tokens (at - 1) no_token in
+    let right = get_or tokens at no_token in
+    let there : slice_get tokens at ≡ Some right = slice_get-get_or tokens at no_token (omega (arith, c.loop-at-test.true, c.requires.short.within)) in
+    let near : c.loop-at.column + c.in-Some.spaces + right.last_width ≤ 1000 =
+    starts_near c.args.style.now tokens c.args.column c.args.count at c.loop-at.column c.in-Some.spaces left right c.requires.short v.from c.loop-at-test.true there v.near c.in-Some.ensures in
+    let start = c.from-in-loop-at-2.result in
+    let ends : end_of right start ≤ 1000 = end_within right start start 1000 (omega arith) (omega (arith, near, c.from-in-loop-at.ensures, c.from-in-loop-at-2.ensures)) in
+    omega (arith, ends, c.near_end_at-end.ensures)
 
 pub loop-at-preserved : goal.loop-at-preserved
 loop-at-preserved c =
@@ -58,27 +60,30 @@ loop-at-preserved c =
     let plan = c.loop-at.plan in
     let left = get_or tokens (at - 1) no_token in
     let right = get_or tokens at no_token in
-    let inside : at < length tokens = omega (arith, c.loop-at-test.true, c.requires.short.within) in
-    let there : slice_get tokens at ≡ Some right = slice_get-get_or tokens at no_token inside in
-    let spaces = c.from-spaces.result in
-    let start = c.loop-at.column + spaces in
+    let there : slice_get tokens at ≡ Some right = slice_get-get_or tokens at no_token (omega (arith, c.loop-at-test.true, c.requires.short.within)) in
+    let spaces = c.from-in-loop-at-3.result in
+    let start = c.from-in-loop-at-4.result in
     let here : at + 1 - 1 ≡ at = omega arith in
-    let near : c.loop-at.column + 1 + right.last_width ≤ 1000 = ends_near tokens c.args.column c.args.count at c.loop-at.column right c.requires.short v.from c.loop-at-test.true there v.near in
+    let near : c.loop-at.column + c.in-Some.spaces + right.last_width ≤ 1000 =
+    starts_near c.args.style.now tokens c.args.column c.args.count at c.loop-at.column c.in-Some.spaces left right c.requires.short v.from c.loop-at-test.true there v.near c.in-Some.ensures in
     let stands = c.requires.short.stand at right (omega (arith, v.from)) c.loop-at-test.true there in
-    let one : spaces ≤ 1 = omega (arith, c.from-spaces.ensures, c.spaces_at.ensures, one_at_most c.args.style.now left right stands) in
+    let one : c.in-Some.spaces ≤ 1 = omega (arith, c.in-Some.ensures, one_at_most c.args.style.now left right stands) in
     let slot : Slot = record { decision = Spaces spaces; end = start } in
-    let starts : start ≡ columns c.loop-at.column spaces = omega (arith, near, one) in
+    let starts : start ≡ columns c.loop-at.column spaces = omega (arith, near, c.from-in-loop-at.ensures, c.from-in-loop-at-3.ensures, c.from-in-loop-at-4.ensures) in
+    let same : c.from-in-loop-at-2.result ≡ start = omega (arith, c.from-in-loop-at-2.ensures, c.from-in-loop-at-4.ensures) in
     let grown = width_at tokens at right v.from there in
-    let ends : end_of right start ≤ c.loop-at.column + 1 + right.last_width = end_within right start (c.loop-at.column + 1) (c.loop-at.column + 1 + right.last_width) (omega (arith, one)) (omega arith) in
+    let behind : c.near_end_at-end.result ≡ end_of right start = c.near_end_at-end.ensures ∙ ap (λ x. end_of right x) same in
+    let ends : end_of right start ≤ c.loop-at.column + 1 + right.last_width =
+    end_within right start (c.loop-at.column + 1) (c.loop-at.column + 1 + right.last_width) (omega (arith, one, c.from-in-loop-at.ensures, c.from-in-loop-at-4.ensures)) (omega arith) in
     let made = c.decide.ensures.plan ∙ (ap (λ n. decided plan n slot) (c.id.ensures no_token) ∙ sym (ap (λ (b : Bool). if b then plan else decided plan right.id.0 slot) stands)) in
     record {
       from = omega arith;
       behind = c.groups_of-groups.ensures.behind ∙ ap group_behind (c.role-in-loop-at.ensures no_token ∙ ap (λ i. (get_or tokens i no_token).role) (sym here));
       len = c.decide.ensures.len ∙ v.len;
-      near = omega (arith, grown, ends, v.near, c.near_end_at-column.ensures);
-      rest = ap (λ i. decided_all c.decide.new.self (row_made c.args.style.now c.near_end_at-column.result (get_or tokens i no_token) (drop (at + 1) tokens))) here
-          ∙ (row_written c.args.style.now plan c.decide.new.self tokens c.loop-at.column at spaces start c.near_end_at-column.result left right
-          there (c.from-spaces.ensures ∙ c.spaces_at.ensures) starts c.near_end_at-column.ensures made
+      near = omega (arith, grown, ends, v.near, behind);
+      rest = ap (λ i. decided_all c.decide.new.self (row_made c.args.style.now c.near_end_at-end.result (get_or tokens i no_token) (drop (at + 1) tokens))) here
+          ∙ (row_written c.args.style.now plan c.decide.new.self tokens c.loop-at.column at spaces start c.near_end_at-end.result left right
+          there (c.from-in-loop-at-3.ensures ∙ c.in-Some.ensures) starts behind made
           ∙ v.rest);
     }
 
