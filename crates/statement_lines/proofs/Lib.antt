@@ -9,3 +9,4 @@ pub mod TurnLemmas
 pub mod EndLemmas
 pub mod ColonLemmas
 pub mod TokenLemmas
+pub mod KeptLines

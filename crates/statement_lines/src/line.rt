@@ -2,7 +2,7 @@
 
 use line_tokens::LineKind;
 
-/// A line of tokens that are no comments.
+/// A line of tokens that are no comments, as contracts see it.
 #[derive(Clone, Copy, Drop)]
 pub struct Line {
     /// Its first token.

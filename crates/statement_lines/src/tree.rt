@@ -1,7 +1,7 @@
 //! The lines of tokens, with a stack of open lists.
 
 ghost use Rattle.std.specs.Prelude.{◌≡◌, ◌<◌, ◌≤◌, ◌+◌, ◌-◌, ◌*◌, ◌^◌, ◌∷◌, [], ◌++◌, reverse, length, Some, None};
-ghost use Rattle.std.specs.Prelude.{IfSome, IfNone, IfOk};
+ghost use Rattle.std.specs.Prelude.{IfSome, IfNone, IfOk, IsTrue};
 ghost use Rattle.statement_lines.specs.declared.open.Start.TheVariants.{Fresh};
 ghost use Rattle.statement_lines.specs.Forms.{StaysIn, form_of};
 ghost use Rattle.statement_lines.specs.Tree.{settled, lines_of, whole_file, body_of, line_of, head_lines};
@@ -12,12 +12,13 @@ use crate::braces::Braces;
 use crate::form::{Form, Next};
 use crate::forms::{form_of, line_alone, tail_end};
 use crate::line::Line;
+use crate::lines::Lines;
 use crate::lookups::seen;
 use crate::open::{Context, Head, Open, Start};
 use crate::simple::simple_end;
 use crate::token::CodeTokens;
 use bumpalo::Bump;
-use line_tokens::{LineKind, NoMemory};
+use line_tokens::{LineKind, NoMemory, ULine};
 
 /// What begins at a place.
 #[derive(Clone, Copy, Drop)]
@@ -60,15 +61,6 @@ pub(crate) fn push_open(stack: &mut Vec<Open, &Bump>, opened: Open) -> Result<()
     } else {
         stack.push(opened)?;
     }
-    Ok(())
-}
-
-/// Appends a line.
-#[inline(always)]
-fn push_line(out: &mut Vec<Line, &Bump>, line: Line) -> Result<(), NoMemory>
-    ensures items { IfOk result (λ u. out.new.items ≡ out.old.items ++ line ∷ []) }
-{
-    out.push(line)?;
     Ok(())
 }
 
@@ -118,7 +110,7 @@ fn line_of(opened: Open, start: Start, at: usize, form: Form) -> Line
 /// Appends the lines of a head and its block's brace.
 #[inline(always)]
 fn push_head(
-    out: &mut Vec<Line, &Bump>,
+    out: &mut Lines<'_>,
     opened: Open,
     start: Start,
     at: usize,
@@ -127,7 +119,8 @@ fn push_head(
 ) -> Result<(), NoMemory>
     requires begins { at < 2 ^ 32 }
     requires ends { form.end + 1 < 2 ^ 32 }
-    ensures { IfOk result (λ u. out.new.items ≡ out.old.items ++ head_lines opened start at form wrapped) }
+    requires takes { IsTrue wrapped → at < form.end }
+    ensures { IfOk result (λ u. out.new ≡ out.old ++ head_lines opened start at form wrapped) }
 {
     let line = line_of(opened, start, at, form);
     if !wrapped {
@@ -135,9 +128,9 @@ fn push_head(
             end: line.end + 1,
             ..line
         };
-        return push_line(out, whole);
+        return out.push(whole);
     }
-    push_line(out, line)?;
+    out.push(line)?;
     let brace = Line {
         first: form.end as u32,
         end: form.end as u32 + 1,
@@ -145,7 +138,7 @@ fn push_head(
         kind: LineKind::Brace,
         list_level: opened.level,
     };
-    push_line(out, brace)
+    out.push(brace)
 }
 
 /// The statement that a header waits for.
@@ -187,7 +180,7 @@ pub(crate) fn whole_file(tokens: &CodeTokens<'_>) -> Open
 fn leave_list(
     braces: &Braces,
     tokens: &CodeTokens<'_>,
-    out: &[Line],
+    out: &Lines<'_>,
     stack: &mut Vec<Open, &Bump>,
     opened: Open,
     place: Place,
@@ -216,7 +209,7 @@ fn leave_list(
 /// Appends the lines of a form.
 #[inline(always)]
 fn push_form(
-    out: &mut Vec<Line, &Bump>,
+    out: &mut Lines<'_>,
     opened: Open,
     start: Start,
     at: usize,
@@ -224,12 +217,13 @@ fn push_form(
 ) -> Result<(), NoMemory>
     requires begins { at < 2 ^ 32 }
     requires ends { form.end + 1 < 2 ^ 32 }
-    ensures { IfOk result (λ u. out.new.items ≡ out.old.items ++ form_lines opened start at form form.next) }
+    requires stays { StaysIn at opened form form.next }
+    ensures { IfOk result (λ u. out.new ≡ out.old ++ form_lines opened start at form form.next) }
 {
     if let Next::Opens(wrapped, _) = form.next {
         push_head(out, opened, start, at, form, wrapped)
     } else {
-        push_line(out, line_of(opened, start, at, form))
+        out.push(line_of(opened, start, at, form))
     }
 }
 
@@ -271,14 +265,14 @@ pub(crate) fn go_behind(
 fn take_line(
     braces: &Braces,
     tokens: &CodeTokens<'_>,
-    out: &mut Vec<Line, &Bump>,
+    out: &mut Lines<'_>,
     stack: &mut Vec<Open, &Bump>,
     opened: Open,
     place: Place,
     formed: Form,
 ) -> Result<Place, NoMemory>
     requires small { length tokens.now < 2 ^ 30 }
-    requires stands { Stands braces.now tokens.now out.old.items (opened ∷ reverse stack.old.items) place.start
+    requires stands { Stands braces.now tokens.now out.old (opened ∷ reverse stack.old.items) place.start
         place.at }
     requires here { place.at < opened.end }
     requires list { opened.end ≤ length tokens.now }
@@ -286,7 +280,7 @@ fn take_line(
     requires stays { StaysIn place.at opened formed formed.next }
     requires level { formed.level ≤ 2 * place.at }
     ensures stands { IfOk result
-        (λ p. Stands braces.now tokens.now out.new.items (reverse stack.new.items) p.start p.at) }
+        (λ p. Stands braces.now tokens.now out.new (reverse stack.new.items) p.start p.at) }
     ensures up { IfOk result (λ p. (place.at < p.at) × (length stack.new.items ≤ length stack.old.items + 2)) }
 {
     push_form(out, opened, place.start, place.at, formed)?;
@@ -297,22 +291,24 @@ fn take_line(
 /// The lines of tokens that are no comments, where `colons` has the colons of their `case`s.
 ///
 /// `docs/PROFILE.md` says under "Statements and lines" which lines there are, and what their levels and kinds are. The
-/// lines cut the tokens whole and in order. Want of memory is the only error.
+/// lines cut the tokens whole and in order. They are put where no lines are yet. Want of memory is the only error.
 #[inline(never)]
 pub fn tree_lines<'r>(
     braces: &Braces,
     tokens: &CodeTokens<'_>,
     colons: &[u32],
+    room: Vec<ULine, &'r Bump>,
     run: &'r Bump,
-) -> Result<Vec<Line, &'r Bump>, NoMemory>
+) -> Result<Lines<'r>, NoMemory>
     requires few { length tokens.now < 2 ^ 30 }
     requires colons { AreCaseColons colons.now tokens.now }
-    ensures same { IfOk result (λ r. r.items ≡ lines_of braces.now tokens.now) }
-    ensures cut { IfOk result (λ r. IsCut 0 (length tokens.now) r.items) }
+    requires none { room.items ≡ [] }
+    ensures same { IfOk result (λ r. r ≡ lines_of braces.now tokens.now) }
+    ensures cut { IfOk result (λ r. IsCut 0 (length tokens.now) r) }
 {
     // Each line has a token and opens one list at most, so there is room for all. What isn't filled isn't touched.
     let count = tokens.count();
-    let mut out = Vec::with_capacity(run, count)?;
+    let mut out = Lines::within(room, count, run)?;
     let mut stack = Vec::with_capacity(run, count + 1)?;
     push_open(&mut stack, whole_file(tokens))?;
     let mut place = Place {
@@ -350,16 +346,16 @@ fn turn(
     braces: &Braces,
     tokens: &CodeTokens<'_>,
     colons: &[u32],
-    out: &mut Vec<Line, &Bump>,
+    out: &mut Lines<'_>,
     stack: &mut Vec<Open, &Bump>,
     opened: Open,
     from: Place,
 ) -> Result<Place, NoMemory>
     requires colons { AreCaseColons colons.now tokens.now }
     requires small { length tokens.now < 2 ^ 30 }
-    requires stands { Stands braces.now tokens.now out.old.items (opened ∷ reverse stack.old.items) from.start from.at }
+    requires stands { Stands braces.now tokens.now out.old (opened ∷ reverse stack.old.items) from.start from.at }
     ensures stands { IfOk result
-        (λ p. Stands braces.now tokens.now out.new.items (reverse stack.new.items) p.start p.at) }
+        (λ p. Stands braces.now tokens.now out.new (reverse stack.new.items) p.start p.at) }
     ensures up { IfOk result (λ p.
         2 * (length tokens.now - p.at) + length stack.new.items
         < 2 * (length tokens.now - from.at) + length stack.old.items + 1) }
@@ -371,7 +367,7 @@ fn turn(
             let Some(start) = start_behind(opened, formed) else {
                 return take_line(braces, tokens, out, stack, opened, place, formed);
             };
-            push_line(out, line_of(opened, place.start, place.at, formed))?;
+            out.push(line_of(opened, place.start, place.at, formed))?;
             place = Place {
                 start,
                 at: formed.end,
@@ -379,7 +375,7 @@ fn turn(
             continue;
         };
         let form = line_alone(LineKind::Simple, opened.level, end);
-        push_line(out, line_of(opened, place.start, place.at, form))?;
+        out.push(line_of(opened, place.start, place.at, form))?;
         place = Place {
             start: Start::Fresh,
             at: end,

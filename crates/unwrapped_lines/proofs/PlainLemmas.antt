@@ -21,9 +21,10 @@ use Rattle.unwrapped_lines.specs.declared.part.ViewComment.{ViewComment}
 use Rattle.unwrapped_lines.specs.Inside.{lines_with, parts_with, tree_with}
 use Rattle.unwrapped_lines.specs.Viewed.{code_places_from, code_tokens, token_at, parts_from, parts_of}
 use Rattle.statement_lines.specs.Stack.{IsCut}
+use Rattle.statement_lines.specs.Lines.{row_of}
 use Rattle.statement_lines.specs.Tree.{end_level, lines_of}
 use Rattle.statement_lines.specs.Wrapping.{braces_of}
-use Rattle.unwrapped_lines.specs.Lines.{lines_between, unwrapped_lines_of, tree_of, view_line}
+use Rattle.unwrapped_lines.specs.Lines.{lines_between, unwrapped_lines_of, tree_of}
 use Rattle.unwrapped_lines.proofs.CutLemmas.{places_count}
 
 -- ## No comments
@@ -125,25 +126,25 @@ token_begins (suc n) t (l ∷ ls) k j e follow cut low all =
           goes_on n t k j on ∙ token_begins n t (l ∷ ls) (k + 1) j e follow cut (omega arith) (omega arith)
     ] refl
 
-view_lines : (e count : ℕ) (ls : List Line) → IsCut e count ls → lines_between count (map begin ls) ≡ map view_line ls
+view_lines : (e count : ℕ) (ls : List Line) → IsCut e count ls → lines_between count (map begin ls) ≡ map row_of ls
 view_lines e count [] cut = refl
 view_lines e count (l ∷ []) cut = let end : l.end ≡ count = cut.1.1 in rw end refl
 view_lines e count (l ∷ next ∷ ls) cut =
     let end : next.first ≡ l.end = cut.1.1.0 in
     ap (λ x. record { first = l.first; last = x - 1; level = l.level; kind = l.kind } ∷ lines_between count (map begin (next ∷ ls))) end
-    ∙ ap (λ ls. view_line l ∷ ls) (view_lines l.end count (next ∷ ls) cut.1.1)
+    ∙ ap (λ ls. row_of l ∷ ls) (view_lines l.end count (next ∷ ls) cut.1.1)
 
 -- where a view has as many tokens as places, its lines are those of its tokens
 pub plain_lines : (braces : Braces) (arena : Contents) (ids : List ℕ) (classes : List TokenClass) (ts : List CodeToken) (lines : List Line)
     → length ts ≡ length (code_places_from 0 classes) → lines ≡ lines_of braces ts → IsCut 0 (length ts) lines → length ts ≡ length classes
-    → map view_line lines ≡ lines_with braces arena ids classes ts
+    → map row_of lines ≡ lines_with braces arena ids classes ts
 plain_lines braces arena ids classes ts lines many by_line cut all =
     let t = tree_with braces ts in
     let code : AreCode classes = all_code 0 classes (sym many ∙ all) in
     let P : ℕ → Type 0 = λ x. IsCut 0 x t.lines in
     let Q : List Line → Type 0 = λ x. IsCut 0 (length ts) x in
     let cut_tree : IsCut 0 (length ts) t.lines = subst Q by_line cut in
-    ap (map view_line) by_line
+    ap (map row_of) by_line
     ∙ sym (ap (λ ps. lines_between (length classes) (begins_from t ps 0 no_marks)) (code_parts arena ids 0 false classes code)
     ∙ ap (lines_between (length classes)) (token_begins (length classes) t t.lines 0 0 0 (λ i. let e : 0 + i ≡ i = omega arith in ap (slice_get t.lines) e) cut_tree (omega arith) (omega (arith, all)))
     ∙ view_lines 0 (length classes) t.lines (subst P all cut_tree))

@@ -4,7 +4,6 @@ use Rattle.style_table.specs.declared.style.Style.{Style}
 use Rattle.token_arena.specs.Gaps.{Contents}
 use Rattle.token_classes.specs.Partners.{partners_of}
 use Rattle.item_classes.specs.Viewed.{classes_of}
-use Rattle.statement_lines.specs.declared.line.Line.{Line}
 use Rattle.line_tokens.specs.declared.line.ULine.{ULine}
 use Rattle.unwrapped_lines.specs.declared.part.Begin.{Begin}
 use Rattle.statement_lines.specs.Wrapping.{braces_of}
@@ -41,7 +40,3 @@ unwrapped_lines_of style arena ids partners =
 -- the unwrapped lines of these items
 abbrev pub lines_of_items : Style → Contents → List ℕ → List ULine
 lines_of_items style arena ids = unwrapped_lines_of style arena ids (partners_of (classes_of arena ids))
-
--- the line of a view without comments whose tokens this line has
-abbrev pub view_line : Line → ULine
-view_line l = record { first = l.first; last = l.end - 1; level = l.level; kind = l.kind }

@@ -13,7 +13,7 @@ use crate::part::{Begin, Marks, Run, ViewComment};
 use bumpalo::Bump;
 use item_classes::Part;
 use line_tokens::{LineKind, NoMemory, ULine};
-use statement_lines::Line;
+use statement_lines::{Line, Lines};
 
 /// Whether a token comes after the inner comments at a place, where these comments follow.
 #[inline(never)]
@@ -38,10 +38,10 @@ fn token_follows(comments: &[ViewComment], count: usize, from: usize) -> bool
 
 /// The line that begins behind so many others, if there is one.
 #[inline(always)]
-fn line_at(lines: &[Line], begun: usize) -> Option<Line>
+fn line_at(lines: &Lines<'_>, begun: usize) -> Option<Line>
     ensures { result ≡ slice_get lines.now begun }
 {
-    lines.get(begun).copied()
+    lines.get(begun)
 }
 
 /// Whether no line goes on behind so many tokens, where this one is the next.
@@ -160,7 +160,7 @@ fn next_run(between: bool, begins: bool, run: Run) -> Run
 
 /// How many tokens are passed where the next line begins, at least: before that each stands inside a line.
 #[inline(always)]
-fn next_first(lines: &[Line], total: usize, begun: usize) -> usize
+fn next_first(lines: &Lines<'_>, total: usize, begun: usize) -> usize
     ensures { (passed : ℕ) → passed < result → between_at total passed (slice_get lines.now begun) ≡ false }
 {
     match line_at(lines, begun) {
@@ -215,9 +215,10 @@ struct Begun {
 
 /// The next line, if its first token stands before an end, up to which no comment stands.
 #[inline(always)]
-fn line_before(lines: &[Line], end: usize, index: usize, marks: Marks) -> Option<Begun>
+fn line_before(lines: &Lines<'_>, end: usize, index: usize, marks: Marks) -> Option<Begun>
     requires few { end < 2 ^ 32 }
     requires here { index < 2 ^ 32 }
+    requires begun { marks.begun ≤ index }
     ensures row { IfSome result (λ next.
         (total : ℕ) → (end_level : ℕ) → (count : ℕ) → (comments : List ViewComment) →
         is_begun marks.run ≡ false → next.begin.first + 1 ≤ count → FollowFrom (next.begin.first + 1) comments →
@@ -234,10 +235,9 @@ fn line_before(lines: &[Line], end: usize, index: usize, marks: Marks) -> Option
     ensures up { IfSome result (λ next. marks.begun < length lines.now) }
     ensures run { IfSome result (λ next. is_begun next.marks.run ≡ false) }
 {
-    if lines.len() <= marks.begun {
+    let Some(line) = lines.get(marks.begun) else {
         return None;
-    }
-    let line = &lines[marks.begun];
+    };
     let first = line.first as usize;
     if first < marks.seen {
         return None;
@@ -264,7 +264,7 @@ fn line_before(lines: &[Line], end: usize, index: usize, marks: Marks) -> Option
 /// them is all that is told.
 #[inline(always)]
 fn pass_lines(
-    lines: &[Line],
+    lines: &Lines<'_>,
     total: usize,
     end_level: u32,
     comments: &[ViewComment],
@@ -309,7 +309,7 @@ fn pass_lines(
 /// Passes tokens inside a line up to the next comment. What is told of the places behind them is all that is told.
 #[inline(always)]
 fn pass_tokens(
-    lines: &[Line],
+    lines: &Lines<'_>,
     total: usize,
     end_level: u32,
     comments: &[ViewComment],
@@ -376,7 +376,7 @@ struct Step {
 /// One place, behind which these comments follow.
 #[inline(always)]
 fn pass_place(
-    lines: &[Line],
+    lines: &Lines<'_>,
     total: usize,
     end_level: u32,
     comments: &[ViewComment],
@@ -426,7 +426,7 @@ fn begin_line(
 
 /// The lines of a view that has so many places and these comments, put where none are yet.
 pub fn comment_lines<'r>(
-    lines: &[Line],
+    lines: &Lines<'_>,
     total: usize,
     end_level: u32,
     comments: &[ViewComment],

@@ -4,7 +4,7 @@ ghost use Rattle.std.specs.Prelude.{◌≡◌, ◌<◌, ◌≤◌, ◌^◌, List
 ghost use Rattle.c_chars.specs.declared.TheConstants.{LIMIT};
 ghost use Rattle.item_classes.specs.Viewed.{AreWithin, classes_of};
 ghost use Rattle.line_tokens.specs.Lines.{CutPlaces};
-ghost use Rattle.unwrapped_lines.specs.Lines.{tree_of, unwrapped_lines_of, view_line};
+ghost use Rattle.unwrapped_lines.specs.Lines.{tree_of, unwrapped_lines_of};
 ghost use Rattle.statement_lines.specs.Colons.{AreCaseColons};
 ghost use Rattle.unwrapped_lines.specs.Comments.{begins_from, no_marks};
 ghost use Rattle.unwrapped_lines.specs.Inside.{lines_with, parts_with};
@@ -18,31 +18,10 @@ use crate::viewed::{ViewTokens, read_view, view_tokens};
 use bumpalo::Bump;
 use bumpalo::collections::into_bump_slice;
 use line_tokens::{NoMemory, ULine};
-use statement_lines::{Braces, CodeTokens, Line, braces_of, case_colons, end_level, tree_lines};
+use statement_lines::{Braces, CodeTokens, braces_of, case_colons, end_level, tree_lines};
 use style_table::Style;
 use token_arena::{TokenArena, View};
 use token_classes::{Partner, TokenClass};
-
-/// Puts the lines of a view without comments where none are yet: the number of a token is its place.
-fn token_lines<'r>(
-    lines: &[Line],
-    room: Vec<ULine, &'r Bump>,
-) -> Result<Vec<ULine, &'r Bump>, NoMemory>
-    requires { room.items ≡ [] }
-    ensures { IfOk result (λ view. view.items ≡ map view_line lines.now) }
-{
-    let mut view_lines = room;
-    view_lines.reserve(lines.len())?;
-    for line in lines {
-        view_lines.push_reserved(ULine {
-            first: line.first,
-            last: line.end.saturating_sub(1),
-            level: line.level,
-            kind: line.kind,
-        });
-    }
-    Ok(view_lines)
-}
 
 /// The level at a view's end, as far as the lines depend on it: where a token stands last, they don't.
 #[inline(always)]
@@ -82,7 +61,7 @@ fn lines_of_read<'r>(
     classes: &[TokenClass],
     read: &ViewTokens<'_>,
     room: Vec<ULine, &'r Bump>,
-    run: &Bump,
+    run: &'r Bump,
 ) -> Result<Vec<ULine, &'r Bump>, NoMemory>
     requires none { room.items ≡ [] }
     requires classes { classes.now ≡ classes_of arena.now view.now }
@@ -98,15 +77,17 @@ fn lines_of_read<'r>(
 {
     let tokens = &read.tokens;
     let colons = case_colons(tokens, read.cases, run)?;
-    let tree = tree_lines(braces, tokens, &colons, run)?;
-    let lines = tree.as_slice();
     let count = classes.len();
     let total = tokens.count();
+    // Where there are no comments, the number of a token is its place.
     if total == count {
-        return token_lines(lines, room);
+        let tree = tree_lines(braces, tokens, &colons, room, run)?;
+        return Ok(tree.into_rows());
     }
+    let rows = Vec::with_capacity(run, total)?;
+    let tree = tree_lines(braces, tokens, &colons, rows, run)?;
     let level = level_behind(braces, arena, view, classes, tokens, &colons, run)?;
-    comment_lines(lines, total, level, read.comments, count, room)
+    comment_lines(&tree, total, level, read.comments, count, room)
 }
 
 /// The lines, and that those of the tokens that are no comments cut these.

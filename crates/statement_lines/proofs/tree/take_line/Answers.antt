@@ -23,8 +23,8 @@ returns-clause-stands c =
     let lists = reverse c.go_behind.new.stack.items in
     IfOk-weaker c.go_behind.result
     (λ p. GoesBehind c.args.tokens.now c.args.opened f (reverse c.push_open.new.stack.items) lists p.start p.at f.next × (length c.go_behind.new.stack.items ≤ length c.push_open.new.stack.items + 1))
-    (λ p. Stands c.args.braces.now c.args.tokens.now c.push_form.new.out.items lists p.start p.at)
-    (λ p w. taken c.args.braces.now c.args.tokens.now c.args.out.now.items c.push_form.new.out.items c.args.opened c.args.stack.now.items c.push_open.new.stack.items c.go_behind.new.stack.items
+    (λ p. Stands c.args.braces.now c.args.tokens.now c.push_form.new.out lists p.start p.at)
+    (λ p w. taken c.args.braces.now c.args.tokens.now c.args.out.now c.push_form.new.out c.args.opened c.args.stack.now.items c.push_open.new.stack.items c.go_behind.new.stack.items
     c.args.place.start p.start c.args.place.at p.at f f.next c.requires.stands c.requires.here c.requires.form refl c.requires.stays c.requires.level
     c.in_ok-push_form.ensures c.in_ok-push_open.ensures.items w.0)
     c.go_behind.ensures

@@ -3,7 +3,7 @@ use Rattle.statement_lines.specs.Stack.{Stands}
 use Rattle.statement_lines.proofs.tree.tree_lines.Given as goal
 
 abbrev pub invariant-loop-o : goal.invariant-loop-o
-invariant-loop-o l = Stands l.braces l.tokens l.out.items (reverse l.stack.items) l.place.start l.place.at
+invariant-loop-o l = Stands l.braces l.tokens l.out (reverse l.stack.items) l.place.start l.place.at
 
 abbrev pub decreases-loop-o : goal.decreases-loop-o
 decreases-loop-o l = 2 * (length l.tokens - l.place.at) + length l.stack.items

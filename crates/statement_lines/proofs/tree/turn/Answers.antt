@@ -25,7 +25,7 @@ loop-place-preserved c =
     record {
       stands =
           simple_turn _ _ _ _ _ _ _ _ _ _ c.line_alone-form.result c.loop-place.invariant.stands c.loop-place-test.true (c.in-Some.ensures.form c.args.braces.now) c.line_alone-form.ensures
-          c.in-Some.ensures.least c.in-Some.ensures.most c.in-Some.ensures.block c.line_of-in-loop-place.ensures c.in_ok-push_line-2.ensures.items;
+          c.in-Some.ensures.least c.in-Some.ensures.most c.in-Some.ensures.block c.line_of-in-loop-place.ensures c.in_ok-push-2.ensures;
       same = c.loop-place.invariant.same;
       up = omega (arith, c.loop-place.invariant.up, c.in-Some.ensures.least);
     }
@@ -72,7 +72,7 @@ loop-place-preserved-in_default c =
     record {
       stands =
           stays_turn _ _ _ _ _ _ _ _ _ _ f f.next c.loop-place.invariant.stands c.loop-place-test.true (sym c.form_of-formed.ensures.same) refl c.form_of-formed.ensures.stays c.in-Some-start_behind.ensures c.line_of.ensures
-          c.in_ok-push_line.ensures.items;
+          c.in_ok-push.ensures;
       same = c.loop-place.invariant.same;
       up = omega (arith, c.loop-place.invariant.up, up);
     }

@@ -4,7 +4,7 @@ use Rattle.statement_lines.proofs.tree.turn.Given as goal
 
 abbrev pub invariant-loop-place : goal.invariant-loop-place
 invariant-loop-place l = record {
-  stands : Stands l.braces l.tokens l.out.items (l.opened ∷ reverse l.stack.items) l.place.start l.place.at;
+  stands : Stands l.braces l.tokens l.out (l.opened ∷ reverse l.stack.items) l.place.start l.place.at;
   same : l.stack.items ≡ l.initial.stack.items;
   up : l.fn.from.at ≤ l.place.at;
 }

@@ -1,0 +1,120 @@
+//! The lines of tokens, as they are kept.
+
+ghost use Rattle.std.specs.Prelude.{◌≡◌, ◌<◌, ◌∷◌, [], ◌++◌, length, map, slice_get, IfOk, OnOk};
+ghost use Rattle.std.specs.Vec.{vec_len, vec_capacity};
+ghost use Rattle.statement_lines.specs.Lines.{row_of};
+
+use crate::line::Line;
+use bumpalo::Bump;
+use line_tokens::{NoMemory, ULine};
+use std::marker::Model;
+
+/// Makes room for one item more. It is a call of its own, since it is seldom needed.
+#[inline(never)]
+fn make_room<T: Copy>(items: &mut Vec<T, &Bump>) -> Result<(), NoMemory>
+    ensures items { items.new.items ≡ items.old.items }
+    ensures room { OnOk result (vec_len items.new < vec_capacity items.new) }
+{
+    items.reserve(1)?;
+    Ok(())
+}
+
+/// Sees that there is room for one item more.
+#[inline(always)]
+fn reserve_room<T: Copy>(items: &mut Vec<T, &Bump>) -> Result<(), NoMemory>
+    ensures items { items.new.items ≡ items.old.items }
+    ensures room { OnOk result (vec_len items.new < vec_capacity items.new) }
+{
+    if items.len() < items.capacity() {
+        return Ok(());
+    }
+    make_room(items)
+}
+
+/// Lines of tokens that are no comments. A contract sees a list of [`Line`].
+///
+/// They are kept as lines of a view, which they are where it has no comments. The levels of comments before them stand
+/// apart.
+#[derive(Drop)]
+pub struct Lines<'r> {
+    levels: Vec<u32, &'r Bump>,
+    rows: Vec<ULine, &'r Bump>,
+}
+
+impl<'r> Model for Lines<'r> {
+    ghost use Rattle.std.specs.Prelude.{List};
+    ghost use Rattle.statement_lines.specs.declared.line.Line.{Line};
+    ghost use Rattle.statement_lines.specs.Lines.{AreKept, lines_told};
+
+    ghost Value = { List Line };
+
+    ghost view = { λ l. lines_told l.rows.items l.levels.items };
+
+    ghost invariant = { λ l. AreKept l.rows.items l.levels.items };
+}
+
+impl<'r> Lines<'r> {
+    /// None, to which so many are to be added that are kept here.
+    pub(crate) fn within(
+        rows: Vec<ULine, &'r Bump>,
+        count: usize,
+        run: &'r Bump,
+    ) -> Result<Lines<'r>, NoMemory>
+        requires { rows.items ≡ [] }
+        ensures { IfOk result (λ lines. lines ≡ []) }
+    {
+        let levels = Vec::with_capacity(run, count)?;
+        Ok(Lines { levels, rows })
+    }
+
+    /// Adds a line. Mostly there is room, and no call is made.
+    #[inline(always)]
+    pub(crate) fn push(&mut self, line: Line) -> Result<(), NoMemory>
+        requires { 0 < line.end }
+        ensures { IfOk result (λ u. self.new ≡ self.old ++ line ∷ []) }
+    {
+        reserve_room(&mut self.levels)?;
+        reserve_room(&mut self.rows)?;
+        self.rows.push_reserved(ULine {
+            first: line.first,
+            last: line.end - 1,
+            level: line.level,
+            kind: line.kind,
+        });
+        self.levels.push_reserved(line.list_level);
+        Ok(())
+    }
+
+    /// How many they are.
+    #[inline(always)]
+    pub fn len(&self) -> usize
+        ensures { result ≡ length self.now }
+    {
+        self.rows.len()
+    }
+
+    /// The line with a number, if there is one.
+    #[inline(always)]
+    pub fn get(&self, number: usize) -> Option<Line>
+        ensures { result ≡ slice_get self.now number }
+    {
+        if self.rows.len() <= number {
+            return None;
+        }
+        let row = &self.rows[number];
+        Some(Line {
+            first: row.first,
+            end: row.last + 1,
+            level: row.level,
+            kind: row.kind,
+            list_level: self.levels[number],
+        })
+    }
+
+    /// The lines of a view whose tokens these are.
+    pub fn into_rows(self) -> Vec<ULine, &'r Bump>
+        ensures { result.items ≡ map row_of self.entry }
+    {
+        self.rows
+    }
+}
