@@ -24,7 +24,7 @@ mod stepping;
 pub use aside::{step_aside, width_aside};
 pub use gap::{Gap, GapRules, gap_rules};
 pub use line_tokens::NoMemory;
-pub use placing::{advance, lay, step};
+pub use placing::{advance, step};
 pub use row::{step_row, width_below};
 pub use rules::{allowed, allowed_by, has_to_stay};
 pub use state::{State, cells, start};

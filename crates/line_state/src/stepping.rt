@@ -157,7 +157,7 @@ fn step_from<'r>(
 {
     let start = start_column(style, spot, gap, rules.spaces, brk);
     let cost = cost(style, spot, gap, &rules.rule, brk, start);
-    let top = placed(style, spot, gap, Some(&rules.rule), brk, start);
+    let top = placed(style, spot, gap, &rules.rule, brk, start);
     let node = place_in(store, style, gap, left_open, top)?;
     Ok(NodeState {
         index: state.index + 1,
