@@ -6,12 +6,12 @@ ghost use Rattle.layout_tables.specs.Spaces.{spaces_before};
 ghost use Rattle.line_state.specs.Brackets.{opens_frame};
 ghost use Rattle.line_state.specs.Layout.{Layout, gap_before, layout_after, start_of};
 ghost use Rattle.line_state.specs.Line.{first_layout};
-ghost use Rattle.line_tokens.specs.Columns.{columns, end_of, stored_or};
+ghost use Rattle.line_tokens.specs.Columns.{columns};
 ghost use Rattle.line_walk.specs.Indents.{TellStarts, is_aligned, next_start, row_start};
 ghost use Rattle.searched_line.specs.Searched.{IsSearchable, line_of};
 
 use line_state::NoMemory;
-use line_tokens::{Fixed, LineTok, Role};
+use line_tokens::{Fixed, LineTok, Role, stored_or};
 use searched_line::{decision_of, token_at};
 use std::alloc::Global;
 use style_table::{AlignAfterOpenBracket, Style};
@@ -34,18 +34,6 @@ fn opens_frame(role: Role) -> bool
     ensures { result ≡ opens_frame role }
 {
     role.is_bracket_open() || role.is_list_open()
-}
-
-/// The column behind a token that starts at a column.
-#[inline(always)]
-fn end_of(token: &LineTok, start: u32) -> u32
-    ensures { result ≡ end_of token.now start }
-{
-    if token.rows > 1 {
-        token.last_width
-    } else {
-        start.saturating_add(token.last_width)
-    }
 }
 
 /// The column of the innermost bracket, or of what stands outside all of them.
@@ -136,17 +124,6 @@ fn is_aligned(style: &Style, indents: &[u32], left: &LineTok, right: &LineTok, b
     !apart
 }
 
-/// Where a line's first token starts.
-#[inline(always)]
-fn first_start(column: u32, fixed: Option<Fixed>) -> u32
-    ensures { result ≡ stored_or fixed column }
-{
-    match fixed {
-        Some(fixed) => fixed.column,
-        None => column,
-    }
-}
-
 impl TokenStarts {
     /// Behind a line's first token.
     ///
@@ -165,11 +142,11 @@ impl TokenStarts {
             TellStarts style.now starts (first_layout (line_of style.now column line.now fixed.now))) }
     {
         let token = token_at(line, 0);
-        let start = first_start(column, decision_of(fixed, 0));
+        let start = stored_or(decision_of(fixed, 0), column);
         let mut indents = Vec::new(alloc);
         open(style, column, &mut indents, token.role)?;
         Ok(TokenStarts {
-            column: end_of(token, start),
+            column: token.end_of(start),
             line: column,
             indents,
         })
@@ -222,7 +199,7 @@ impl TokenStarts {
         let start = self.start(style, right.role, fixed, spaces, brk);
         align(&mut self.indents, aligned, start);
         open(style, self.line, &mut self.indents, right.role)?;
-        self.column = end_of(right, start);
+        self.column = right.end_of(start);
         Ok(start)
     }
 }

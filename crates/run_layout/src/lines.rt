@@ -25,7 +25,7 @@ use crate::broken::{OpenLine, write_broken};
 use crate::laid::Laid;
 use crate::past_budget::line_cells_past;
 use crate::report::{Tally, note_line};
-use crate::row::{end_of, first_start, is_open_row, write_row};
+use crate::row::{is_open_row, write_row};
 use crate::short_row::{few_tokens, short_row, write_short_row};
 use break_search::{Outcome, search};
 use bumpalo::Bump;
@@ -33,7 +33,7 @@ use layout_tables::{RowBlanks, start_column};
 use line_gaps::{
     InputCursor, ViewLayout, decide_first, fixed_of, is_decided, report_line, token_at,
 };
-use line_tokens::{LineTok, NoMemory, ULine};
+use line_tokens::{LineTok, NoMemory, ULine, stored_or};
 use line_walk::least_breaks;
 use replacements::{Decision, Plan};
 use view_tokens::RowTokens;
@@ -165,7 +165,7 @@ fn lay_out_row(
     if !is_open_row(style, blanks, tokens, column, first, layout.budget, plan) {
         return false;
     }
-    let behind = end_of(token, first_start(column, first));
+    let behind = token.end_of(stored_or(first, column));
     decide_first(layout, line, id, plan);
     write_row(style, blanks, tokens, behind, plan);
     true

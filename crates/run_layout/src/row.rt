@@ -5,7 +5,6 @@ ghost use Rattle.std.specs.Prelude.{if◌then◌else◌, length};
 ghost use Rattle.line_tokens.specs.Roles.{is_trailing};
 ghost use Rattle.style_table.specs.Range.{IsInRange};
 ghost use Rattle.line_state.specs.Brackets.{opens_frame};
-ghost use Rattle.line_tokens.specs.Columns.{end_of, stored_or};
 ghost use Rattle.line_state.specs.Line.{Line};
 ghost use Rattle.line_tokens.specs.Tokens.{no_token};
 ghost use Rattle.replacements.specs.declared.gap_text.Decision.TheVariants.{Spaces};
@@ -15,21 +14,9 @@ ghost use Rattle.run_layout.specs.OneRow.{AreOpenInside, Fits, IsRow, IsRowLine,
 
 use layout_tables::{RowBlanks, must_break};
 use line_gaps::token_at;
-use line_tokens::{Fixed, LineTok};
+use line_tokens::{Fixed, LineTok, stored_or};
 use replacements::{Decision, Plan};
 use style_table::Style;
-
-/// The column behind a token that starts at a column.
-#[inline(always)]
-pub(crate) fn end_of(token: &LineTok, start: u32) -> u32
-    ensures { result ≡ end_of token.now start }
-{
-    if token.rows > 1 {
-        token.last_width
-    } else {
-        start.saturating_add(token.last_width)
-    }
-}
 
 /// Whether a token is a bracket that opens a frame.
 #[inline(always)]
@@ -55,17 +42,6 @@ fn fits(style: &Style, token: &LineTok, start: u32) -> bool
     ensures { IsTrue result → Fits style.now token.now start }
 {
     token.role.is_trailing() || start.saturating_add(token.first_width) <= style.column_limit
-}
-
-/// Where a line's first token starts.
-#[inline(always)]
-pub(crate) fn first_start(column: u32, first: Option<Fixed>) -> u32
-    ensures { result ≡ stored_or first column }
-{
-    match first {
-        Some(fixed) => fixed.column,
-        None => column,
-    }
 }
 
 /// Whether a line's first token costs nothing: its gap is decided, or it doesn't pass the limit.
@@ -95,11 +71,11 @@ fn is_row_by_table(
     ensures { IsTrue result → (l : Line) → IsRowLine l style.now column tokens.now first → IsRow l budget }
 {
     let mut left = token_at(tokens, 0);
-    let start = first_start(column, first);
+    let start = stored_or(first, column);
     if !first_fits(style, left, start, first) {
         return false;
     }
-    let mut behind = end_of(left, start);
+    let mut behind = left.end_of(start);
     let mut frames = open_behind(0, left);
     let mut cells = frames + 1;
     for at in 1..tokens.len() {
@@ -116,7 +92,7 @@ fn is_row_by_table(
         if !fits(style, right, start) {
             return false;
         }
-        behind = end_of(right, start);
+        behind = right.end_of(start);
         left = right;
     }
     cells <= budget
@@ -207,7 +183,7 @@ pub(crate) fn write_row(
         let spaces = u32::from(blanks.before(style, left, right));
         let start = column.saturating_add(spaces);
         write_stay(right, spaces, start, plan);
-        column = end_of(right, start);
+        column = right.end_of(start);
         left = right;
     }
 }

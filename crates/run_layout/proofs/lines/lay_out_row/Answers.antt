@@ -76,7 +76,7 @@ returns-clause-plan c =
     c.requires.ready.tell c.requires.tokens c.token_at-token.ensures inside c.start_column-column.ensures c.fixed_of-first.ensures (c.is_open_row.ensures.row c.if-not-is_open_row.false) in
     row_plan style arena ids toks plan line c.args.layout.now.budget c.start_column-column.result tokens c.fixed_of-first.result token
     c.requires.ready.tell c.requires.tokens c.token_at-token.ensures inside c.start_column-column.ensures c.fixed_of-first.ensures
-    c.first_start.result c.end_of-behind.result c.decide_first.new.plan c.write_row.new.plan (slice_get_within tokens 0 token c.token_at-token.ensures) number row c.first_start.ensures c.end_of-behind.ensures c.decide_first.ensures.plan c.write_row.ensures.plan
+    c.stored_or.result c.end_of-behind.result c.decide_first.new.plan c.write_row.new.plan (slice_get_within tokens 0 token c.token_at-token.ensures) number row c.stored_or.ensures c.end_of-behind.ensures c.decide_first.ensures.plan c.write_row.ensures.plan
 
 pub returns-clause-same : goal.returns-clause-same
 returns-clause-same c = tt

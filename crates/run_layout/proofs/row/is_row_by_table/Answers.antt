@@ -10,9 +10,9 @@ loop-at-init c = record {
   from = omega arith;
   left = c.token_at-left.ensures;
   few = omega (arith, c.open_behind-frames.ensures.few);
-  row = λ line is. row_begins line c.args.style.now c.args.column c.args.tokens.now c.args.first is c.token_at-left.result.now c.first_start-start.result c.end_of-behind.result c.open_behind-frames.result _
-      c.requires.some c.token_at-left.ensures c.first_start-start.ensures c.end_of-behind.ensures c.open_behind-frames.ensures.is refl;
-  free = λ line is. row_begins_free line c.args.style.now c.args.column c.args.tokens.now c.args.first is c.token_at-left.result.now c.first_start-start.result c.requires.some c.token_at-left.ensures c.first_start-start.ensures
+  row = λ line is. row_begins line c.args.style.now c.args.column c.args.tokens.now c.args.first is c.token_at-left.result.now c.stored_or-start.result c.end_of-behind.result c.open_behind-frames.result _
+      c.requires.some c.token_at-left.ensures c.stored_or-start.ensures c.end_of-behind.ensures c.open_behind-frames.ensures.is refl;
+  free = λ line is. row_begins_free line c.args.style.now c.args.column c.args.tokens.now c.args.first is c.token_at-left.result.now c.stored_or-start.result c.requires.some c.token_at-left.ensures c.stored_or-start.ensures
       (c.first_fits.ensures c.if-not-first_fits.false);
 }
 
