@@ -21,11 +21,11 @@ use style_table::{AlignAfterOpenBracket, Style};
 #[derive(Drop)]
 pub struct TokenStarts {
     /// The column behind the last token.
-    pub column: u32,
+    column: u32,
     /// Where the line starts.
-    pub line: u32,
+    line: u32,
     /// Where rows begin inside the brackets that are open, and those that the last token closed, the innermost last.
-    pub indents: Vec<u32>,
+    indents: Vec<u32>,
 }
 
 /// Whether a bracket opens a frame.
