@@ -7,7 +7,7 @@ ghost use Rattle.line_state.specs.StoredStates.{layout_in};
 ghost use Rattle.frame_store.specs.Store.{IsIn};
 ghost use Rattle.style_table.specs.Range.{IsInRange};
 
-use crate::gap::{GapRules, opens};
+use crate::gap::{GapRules, opens_frame};
 use crate::placing::excess_cost;
 use crate::stepping::binds_no_gaps;
 use frame_store::{FrameStore, NodeState};
@@ -33,7 +33,7 @@ pub fn width_aside(
     if right.rows > 1 || right.first_width != right.last_width {
         return u32::MAX;
     }
-    if opens(left.role) || opens(right.role) || !binds_no_gaps(style, left.role) {
+    if opens_frame(left.role) || opens_frame(right.role) || !binds_no_gaps(style, left.role) {
         return u32::MAX;
     }
     u32::from(rules.spaces).saturating_add(right.first_width)

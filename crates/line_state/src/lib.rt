@@ -22,7 +22,7 @@ mod state;
 mod stepping;
 
 pub use aside::{step_aside, width_aside};
-pub use gap::{Gap, GapRules, gap_rules};
+pub use gap::{Gap, GapRules, gap_rules, opens_frame};
 pub use line_tokens::NoMemory;
 pub use placing::{advance, step};
 pub use row::{step_row, width_below};

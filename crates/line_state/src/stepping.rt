@@ -15,7 +15,7 @@ ghost use Rattle.line_state.specs.Beside.{IsBelow, excess_below, row_start};
 ghost use Rattle.line_tokens.specs.Columns.{end_of};
 ghost use Rattle.std.specs.Bool.{OnTrue};
 
-use crate::gap::{Gap, GapRules, gap_rules, opens};
+use crate::gap::{Gap, GapRules, gap_rules, opens_frame};
 use crate::placing::{cost, end_column, excess_cost, frame_above, placed, start_column};
 use crate::rules::{allows, is_refused};
 use crate::spot::Spot;
@@ -70,7 +70,7 @@ pub fn cells_in(store: &FrameStore<'_>, state: &NodeState) -> u64
 fn is_just_opened(gap: &Gap, count: u32) -> bool
     ensures { result ≡ (not gap.now.first && opens_frame gap.now.left.role && nat_le count gap.now.right.depth) }
 {
-    !gap.first && opens(gap.left.role) && count <= gap.right.depth
+    !gap.first && opens_frame(gap.left.role) && count <= gap.right.depth
 }
 
 /// The spot of a gap behind a state. `left_open` is the node of the frames that are open there.
@@ -115,7 +115,7 @@ fn place_in<'r>(
     ensures grown { IsGrown store.old store.new }
 {
     let node = store.with_topmost(left_open, top)?;
-    if !opens(gap.right.role) {
+    if !opens_frame(gap.right.role) {
         return Ok(node);
     }
     let below = store.node(node).frame;
@@ -241,7 +241,7 @@ fn is_below(style: &Style, gap: &Gap, rule: &GapRule, brk: bool) -> bool
     if !brk || gap.first || gap.fixed.is_some() || rule.must || !rule.can {
         return false;
     }
-    if opens(gap.left.role) || opens(gap.right.role) {
+    if opens_frame(gap.left.role) || opens_frame(gap.right.role) {
         return false;
     }
     binds_no_openers(style) && binds_no_gaps(style, gap.left.role)

@@ -10,7 +10,7 @@ ghost use Rattle.line_tokens.specs.Columns.{columns};
 ghost use Rattle.line_walk.specs.Indents.{TellStarts, is_aligned, next_start, row_start};
 ghost use Rattle.searched_line.specs.Searched.{IsSearchable, line_of};
 
-use line_state::NoMemory;
+use line_state::{NoMemory, opens_frame};
 use line_tokens::{Fixed, LineTok, Role, stored_or};
 use searched_line::{decision_of, token_at};
 use std::alloc::Global;
@@ -26,14 +26,6 @@ pub struct TokenStarts {
     line: u32,
     /// Where rows begin inside the brackets that are open, and those that the last token closed, the innermost last.
     indents: Vec<u32>,
-}
-
-/// Whether a bracket opens a frame.
-#[inline(always)]
-fn opens_frame(role: Role) -> bool
-    ensures { result ≡ opens_frame role }
-{
-    role.is_bracket_open() || role.is_list_open()
 }
 
 /// The column of the innermost bracket, or of what stands outside all of them.

@@ -1,8 +1,11 @@
 -- The cells of a line's first tokens, which are the same whatever is chosen.
 use Rattle.std.proofs.Common.{◌≡◌, ◌∙◌, ℕ, ◌+◌, ◌<◌, ◌≤◌, Bool, true, List, [], ◌∷◌, length, get_or, sym, ap, arith, subst, suc, zero}
+use Rattle.std.specs.Prelude.{min, if◌then◌else◌}
 use Rattle.std.proofs.lemmas.Option.{get_or_from_slice_get}
 use Rattle.line_tokens.specs.declared.LineTok.{LineTok}
+use Rattle.line_tokens.specs.declared.role.Role.{Role}
 use Rattle.line_tokens.specs.Tokens.{no_token}
+use Rattle.line_state.specs.Brackets.{opens_frame}
 use Rattle.line_state.specs.Choices.{Leads}
 use Rattle.line_state.specs.Layout.{Layout, frames_after, start_layout}
 use Rattle.line_state.specs.Line.{Line, first_layout, Step}
@@ -16,6 +19,16 @@ use Rattle.run_layout.proofs.OneRow.{length-placed}
 abbrev pub frames_to : List LineTok → ℕ → ℕ
 frames_to tokens zero = 0
 frames_to tokens (suc n) = open_behind (frames_to tokens n) (get_or tokens n no_token)
+
+-- one token more, by its role and the brackets that are open before it
+pub frames_more : (tokens : List LineTok) (at frames depth behind : ℕ) (role : Role) → frames ≡ frames_to tokens at → role ≡ (get_or tokens at no_token).role → depth ≡ (get_or tokens at no_token).depth
+    → behind ≡ min depth frames + (if opens_frame role then 1 else 0) → behind ≡ frames_to tokens (suc at)
+frames_more tokens at frames depth behind role before roles depths is =
+    let token : LineTok = get_or tokens at no_token in
+    is
+    ∙ ap (λ (r : Role). min depth frames + (if opens_frame r then 1 else 0)) roles
+    ∙ ap (λ (d : ℕ). min d frames + (if opens_frame token.role then 1 else 0)) depths
+    ∙ ap (λ (n : ℕ). open_behind n token) before
 
 -- the cells of a layout behind the token at a place
 abbrev pub cells_at : List LineTok → ℕ → ℕ

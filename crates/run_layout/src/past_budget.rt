@@ -1,43 +1,18 @@
 //! Lines that are past their budget, told before any of their tokens is made: millions take much memory.
 
-ghost use Rattle.std.specs.Prelude.{◌≡◌, ◌+◌, ◌<◌, ◌≤◌, ◌^◌, IfSome, get_or, length};
-ghost use Rattle.line_state.specs.Brackets.{opens_frame};
+ghost use Rattle.std.specs.Prelude.{◌≡◌, ◌<◌, ◌≤◌, IfSome, length};
 ghost use Rattle.line_state.specs.Line.{Line};
-ghost use Rattle.line_tokens.specs.Tokens.{no_token};
 ghost use Rattle.break_search.specs.Outcome.{IsOver};
 ghost use Rattle.run_layout.specs.Broken.{of_line};
-ghost use Rattle.run_layout.specs.OneRow.{open_behind};
 
+use crate::row::open_behind;
 use break_search::is_too_long;
 use line_gaps::ViewLayout;
-use line_tokens::{Role, ULine};
+use line_tokens::ULine;
 use view_tokens::RowTokens;
 
 /// The cells of lines of more tokens than this are counted before their tokens are made.
 const MANY: usize = 1000;
-
-/// Whether a role is that of a bracket that opens a frame.
-#[inline(always)]
-fn opens_frame(role: Role) -> bool
-    ensures { result ≡ opens_frame role }
-{
-    role.is_bracket_open() || role.is_list_open()
-}
-
-/// How many frames are open behind the token at a place, where so many are before it.
-#[inline(always)]
-fn open_behind(tokens: &RowTokens<'_>, at: usize, frames: u64) -> u64
-    requires { at < length tokens.now }
-    ensures is { result ≡ open_behind frames (get_or tokens.now at no_token) }
-    ensures few { result ≤ 2 ^ 32 }
-{
-    let kept = frames.min(u64::from(tokens.depth(at)));
-    if opens_frame(tokens.role(at)) {
-        kept + 1
-    } else {
-        kept
-    }
-}
 
 /// The cells of the first tokens of a line, up to the one with which they are past its budget, if they ever are. They
 /// are the same in each breaking, since the same frames are open behind a token.
@@ -49,7 +24,7 @@ fn row_cells_past(tokens: &RowTokens<'_>, budget: u64) -> Option<u64>
     let mut frames = 0;
     let mut cells = 0;
     for at in 0..tokens.len() {
-        frames = open_behind(tokens, at, frames);
+        frames = open_behind(frames, tokens.role(at), tokens.depth(at));
         cells += frames + 1;
         if cells > budget {
             return Some(cells);

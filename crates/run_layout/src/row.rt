@@ -1,7 +1,7 @@
 //! Lines that stay on one row. They need no search.
 
 ghost use Rattle.std.specs.Prelude.{◌≡◌, ◌+◌, ◌<◌, ◌≤◌, ◌^◌, All, IsTrue, None, drop, get_or};
-ghost use Rattle.std.specs.Prelude.{if◌then◌else◌, length};
+ghost use Rattle.std.specs.Prelude.{if◌then◌else◌, length, min};
 ghost use Rattle.line_tokens.specs.Roles.{is_trailing};
 ghost use Rattle.style_table.specs.Range.{IsInRange};
 ghost use Rattle.line_state.specs.Brackets.{opens_frame};
@@ -10,30 +10,23 @@ ghost use Rattle.line_tokens.specs.Tokens.{no_token};
 ghost use Rattle.replacements.specs.declared.gap_text.Decision.TheVariants.{Spaces};
 ghost use Rattle.replacements.specs.Decisions.{decided, decided_all};
 ghost use Rattle.layout_tables.specs.Told.{TellBlanks};
-ghost use Rattle.run_layout.specs.OneRow.{AreOpenInside, Fits, IsRow, IsRowLine, open_behind, row_made};
+ghost use Rattle.run_layout.specs.OneRow.{AreOpenInside, Fits, IsRow, IsRowLine, row_made};
 
 use layout_tables::{RowBlanks, must_break};
 use line_gaps::token_at;
-use line_tokens::{Fixed, LineTok, stored_or};
+use line_state::opens_frame;
+use line_tokens::{Fixed, LineTok, Role, stored_or};
 use replacements::{Decision, Plan};
 use style_table::Style;
 
-/// Whether a token is a bracket that opens a frame.
+/// How many frames are open behind a token, where so many are before it, and so many brackets are open there.
 #[inline(always)]
-fn opens_frame(token: &LineTok) -> bool
-    ensures { result ≡ opens_frame token.now.role }
-{
-    token.role.is_bracket_open() || token.role.is_list_open()
-}
-
-/// How many frames are open behind a token, where so many are before it.
-#[inline(always)]
-fn open_behind(frames: u64, token: &LineTok) -> u64
-    ensures is { result ≡ open_behind frames token.now }
+pub(crate) fn open_behind(frames: u64, role: Role, depth: u32) -> u64
+    ensures is { result ≡ min depth frames + (if opens_frame role then 1 else 0) }
     ensures few { result ≤ 2 ^ 32 }
 {
-    let kept = frames.min(u64::from(token.depth));
-    if opens_frame(token) { kept + 1 } else { kept }
+    let kept = frames.min(u64::from(depth));
+    if opens_frame(role) { kept + 1 } else { kept }
 }
 
 /// Whether the first row of a token that starts here doesn't pass the limit.
@@ -76,7 +69,7 @@ fn is_row_by_table(
         return false;
     }
     let mut behind = left.end_of(start);
-    let mut frames = open_behind(0, left);
+    let mut frames = open_behind(0, left.role, left.depth);
     let mut cells = frames + 1;
     for at in 1..tokens.len() {
         let right = token_at(tokens, at);
@@ -84,7 +77,7 @@ fn is_row_by_table(
             return false;
         }
         let start = behind.saturating_add(u32::from(blanks.before(style, left, right)));
-        frames = open_behind(frames, right);
+        frames = open_behind(frames, right.role, right.depth);
         cells += frames + 1;
         if cells > budget {
             return false;
