@@ -23,6 +23,15 @@ use replacements::{Decision, Plan};
 use style_table::Style;
 use view_tokens::RowTokens;
 
+/// A line of more tokens isn't tested for a short row.
+const MOST_TOKENS: usize = 1000;
+
+/// A line of so many tokens has no more cells: behind each, one and no more than a frame for each token.
+const MOST_CELLS: u64 = 1_001_000;
+
+/// No style's limit of columns is greater.
+const MOST_COLUMNS: u64 = 1000;
+
 /// The column behind the token at a place that starts at a column.
 #[inline(never)]
 fn end_of_rows(tokens: &RowTokens<'_>, at: usize, start: u32) -> u32
@@ -91,8 +100,8 @@ fn most_width(tokens: &RowTokens<'_>, at: usize) -> u32
 pub(crate) fn few_tokens(style: &Style, budget: u64) -> usize
     ensures { NeedNoCount style.now budget result }
 {
-    if style.column_limit > 0 && budget >= 1_001_000 {
-        1000
+    if style.column_limit > 0 && budget >= MOST_CELLS {
+        MOST_TOKENS
     } else {
         0
     }
@@ -322,8 +331,7 @@ pub(crate) fn short_row(
     if most <= limit {
         return Some(count);
     }
-    // No limit is greater.
-    if most > 1000 {
+    if most > MOST_COLUMNS {
         return None;
     }
     if is_near_row(style, tokens, column) {

@@ -112,7 +112,7 @@ returns-then-is_near_row-clause-short c =
     let v = c.loop-at.invariant in
     let all : c.loop-at.at ≡ length c.args.tokens.now = omega (arith, v.from, c.loop-at-test.false, c.len-at-end.ensures, c.loop-at.auto.at-end (omega (arith, c.len-at-end.ensures, c.requires.some))) in
     all_stand c.args.tokens.now (end_of (get_or c.args.tokens.now 0 no_token) c.args.column) c.loop-at.at c.len-count.result (c.loop-at.least + (c.loop-at.at - 1)) c.requires.some all c.len-count.ensures v.stand v.widths
-    (omega (arith, all, c.if-most-gt1000.false, c.len-count.ensures))
+    (omega (arith, all, c.if-most-gt-MOST_COLUMNS.false, c.len-count.ensures))
 
 pub returns-then-ends_row-is_own_or_trailing-clause-row : goal.returns-then-ends_row-is_own_or_trailing-clause-row
 returns-then-ends_row-is_own_or_trailing-clause-row c = λ line budget rich is.
