@@ -6,7 +6,6 @@ ghost use Rattle.line_state.specs.Layout.{is_some_decision};
 ghost use Rattle.line_state.specs.Line.{first_layout};
 ghost use Rattle.searched_line.specs.Searched.{IsSearchable, line_of};
 ghost use Rattle.layout_tables.specs.Spaces.{spaces_before};
-ghost use Rattle.line_walk.specs.Indents.{TellStarts};
 ghost use Rattle.line_walk.specs.Starts.{IsAdmissible};
 ghost use Rattle.layout_tables.specs.Indents.{start_column};
 ghost use Rattle.layout_tables.specs.Told.{TellBlanks};
@@ -21,6 +20,7 @@ use line_gaps::{ViewLayout, decide_first, token_at};
 use line_tokens::{Fixed, LineTok, NoMemory, ULine};
 use line_walk::TokenStarts;
 use replacements::{Decision, Plan};
+use std::alloc::Global;
 use style_table::Style;
 
 /// The empty lines before a further row of a line: only behind a directive are there any.
@@ -81,9 +81,9 @@ fn decide_open(
     }
 }
 
-/// Decides the open gaps inside a line, by admissible choices. `starts` is told behind the first token, and walks along
-/// them.
+/// Decides the open gaps inside a line that starts at a column, by admissible choices.
 fn write_breaks(
+    alloc: Global,
     style: &Style,
     blanks: &RowBlanks,
     line: &ULine,
@@ -91,13 +91,11 @@ fn write_breaks(
     column: u32,
     fixed: &[Option<Fixed>],
     breaks: &[bool],
-    starts: &mut TokenStarts,
     plan: &mut Plan<'_>,
 ) -> Result<(), NoMemory>
     requires tell { TellBlanks style.now blanks.now.of_group }
     requires line { IsSearchable (line_of style.now column tokens.now fixed.now) }
     requires admissible { IsAdmissible (line_of style.now column tokens.now fixed.now) breaks.now }
-    requires first { TellStarts style.now starts.old (first_layout (line_of style.now column tokens.now fixed.now)) }
     requires within { All (λ token. token.id.0 < length plan.old) tokens.now }
     ensures plan { OnOk result (plan.new
         ≡ decided_all plan.old (inside_made line.now (map number tokens.now)
@@ -105,7 +103,7 @@ fn write_breaks(
         (first_layout (line_of style.now column tokens.now fixed.now)) breaks.now)) }
     ensures len { length plan.new ≡ length plan.old }
 {
-    let _ = column;
+    let mut starts = TokenStarts::behind_first(alloc, style, tokens, column, fixed)?;
     for at in 0..breaks.len() {
         let left = token_at(tokens, at);
         let right = token_at(tokens, at + 1);
@@ -152,9 +150,9 @@ pub(crate) fn write_broken(
     let tokens = open_line.tokens;
     let fixed = open_line.fixed;
     let column = start_column(style, line);
-    let mut starts = TokenStarts::behind_first(layout.alloc, style, tokens, column, fixed)?;
     decide_first(layout, line, token_at(tokens, 0).id.0, plan);
     write_breaks(
+        layout.alloc,
         style,
         blanks,
         line,
@@ -162,7 +160,6 @@ pub(crate) fn write_broken(
         column,
         fixed,
         breaks,
-        &mut starts,
         plan,
     )?;
     Ok(())

@@ -16,7 +16,7 @@ loop-at-init c =
     record {
       len = refl;
       layout = first_layout l;
-      told = c.requires.first;
+      told = c.in_ok-starts.ensures;
       written = write_begins l c.args.line.now (map number c.args.tokens.now) c.args.breaks.now c.args.plan.now (first_layout l) c.requires.line.some c.requires.admissible refl;
     }
 

@@ -9,11 +9,6 @@ use Rattle.run_layout.proofs.LineOutcomes.{first_then, made_same, open_searched,
 use Rattle.run_layout.proofs.RowLines.{first_number}
 use Rattle.run_layout.proofs.broken.write_broken.Goals as goal
 
-pub behind_first-requires : goal.behind_first-requires
-behind_first-requires c =
-    let told = open_searched c.args.layout.now c.args.plan.now c.args.open_line.now c.requires.ready c.requires.line in
-    record { some = told.some; short = told.short; even = told.even; range = c.requires.ready.range }
-
 pub token_at-requires : goal.token_at-requires
 token_at-requires c = (open_searched c.args.layout.now c.args.plan.now c.args.open_line.now c.requires.ready c.requires.line).some
 
@@ -38,7 +33,6 @@ write_breaks-requires c =
       tell = c.requires.tell;
       line = record { some = told.some; short = told.short; even = told.even; range = c.requires.ready.range };
       admissible = subst (λ x. IsAdmissible (line_of c.args.layout.now.style.now x open_line.tokens.now open_line.fixed.now) c.args.breaks.now) (sym c.start_column-column.ensures) c.requires.admissible;
-      first = c.in_ok-starts.ensures;
       within = open_within c.args.layout.now c.args.plan.now open_line (length c.decide_first.new.plan) c.requires.ready c.requires.line c.decide_first.ensures.len;
     }
 
