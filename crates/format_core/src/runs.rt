@@ -538,7 +538,7 @@ pub(crate) fn plan_of<'a>(
     ensures len { IfOk result (λ made. length made.plan ≡ length arena.now.tokens + 1) }
 {
     // The plan takes room of which it fills a part. What comes behind it stands beside that part.
-    let mut plan = Plan::make(arena, bump)?;
+    let mut plan = Plan::make(style, arena, bump)?;
     let context = Context {
         alloc,
         style,

@@ -67,11 +67,11 @@ pub fn three_items<'t>(rt: &impl Abort, run: &'t Bump) -> TokenArena<'t, 't>
     arena
 }
 
-/// A plan for a text, in which nothing is decided.
+/// A plan for a text, in which nothing is decided. A level takes two columns.
 pub fn open_plan<'r>(rt: &impl Abort, arena: &TokenArena<'_, '_>, run: &'r Bump) -> Plan<'r>
     ensures { length result ≡ length arena.now.tokens + 1 }
 {
-    Plan::make(arena, run).expect(rt, "a plan")
+    Plan::make(&style(rt, "LLVM"), arena, run).expect(rt, "a plan")
 }
 
 /// The view of a text's items, but for those of a directive where its first and its end are told.

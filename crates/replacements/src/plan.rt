@@ -20,6 +20,7 @@ use bumpalo::Bump;
 use bumpalo::collections::into_bump_slice_mut;
 use line_tokens::{Fixed, NoMemory};
 use std::marker::Model;
+use style_table::Style;
 use token_arena::TokenArena;
 
 /// Whether a line ends in the gap at a place, which is decided so. The input's bytes are looked at only where they
@@ -102,6 +103,8 @@ pub struct Plan<'a> {
     entries: &'a mut [Entry],
     /// The decisions that no entry has room for, in the order in which they were made.
     apart: Vec<Slot, &'a Bump>,
+    /// How many columns each level is indented.
+    width: u8,
 }
 
 impl<'a> Model for Plan<'a> {
@@ -112,14 +115,19 @@ impl<'a> Model for Plan<'a> {
 
     ghost Value = { List (Option Slot) };
 
-    ghost view = { λ p. slots_in p.apart.items p.entries.now };
+    ghost view = { λ p. slots_in p.width p.apart.items p.entries.now };
 
     ghost invariant = { λ p. FitApart p.apart.items (vec_capacity p.apart) p.entries.now };
 }
 
 impl<'a> Plan<'a> {
-    /// A plan for the gaps of a text in which nothing is decided. No other call takes memory.
-    pub fn make(arena: &TokenArena<'_, '_>, bump: &'a Bump) -> Result<Plan<'a>, NoMemory>
+    /// A plan for the gaps of a text in which nothing is decided. No other call takes memory. By the columns of a level
+    /// in the style, lines of deep levels are kept in few bytes; others are kept too.
+    pub fn make(
+        style: &Style,
+        arena: &TokenArena<'_, '_>,
+        bump: &'a Bump,
+    ) -> Result<Plan<'a>, NoMemory>
         ensures { IfOk result (λ plan. plan ≡ replicate (length arena.now.tokens + 1) None) }
     {
         let places = arena.len() + 1;
@@ -128,6 +136,7 @@ impl<'a> Plan<'a> {
         Ok(Plan {
             entries: into_bump_slice_mut(entries),
             apart,
+            width: u8::try_from(style.indent_width).unwrap_or(0),
         })
     }
 
@@ -141,6 +150,21 @@ impl<'a> Plan<'a> {
     {
         let entry = set_apart(&mut self.apart, slot);
         self.entries[place as usize] = entry;
+    }
+
+    /// Decides a gap that is open, by a decision of a far column or a deep level, or one that stands apart.
+    #[inline(never)]
+    fn decide_far(&mut self, place: u32, slot: Slot)
+        requires within { place < length self.old }
+        requires open_gap { is_some (slot_of self.old place) ≡ false }
+        ensures plan { self.new ≡ decided self.old place slot }
+        ensures len { length self.new ≡ length self.old }
+    {
+        if let Some(entry) = Entry::far(slot, self.width) {
+            self.entries[place as usize] = entry;
+            return;
+        }
+        self.decide_apart(place, slot);
     }
 
     /// Decides a gap where it is open; `end` is the column at which the item behind it starts.
@@ -159,7 +183,7 @@ impl<'a> Plan<'a> {
             return Decided::New;
         }
         // A slot of its own, so that one whose entry has room never lies in memory.
-        self.decide_apart(place, Slot { decision, end });
+        self.decide_far(place, Slot { decision, end });
         Decided::New
     }
 
@@ -212,7 +236,7 @@ impl<'a> Plan<'a> {
         ensures { result ≡ slot_of self.now place }
     {
         let entries = &*self.entries;
-        entries[place as usize].slot(&self.apart)
+        entries[place as usize].slot(&self.apart, self.width)
     }
 
     /// Where the item behind a decided gap starts, and whether a line ends in the gap. The plan is of this arena's

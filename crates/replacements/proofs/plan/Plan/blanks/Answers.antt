@@ -11,6 +11,6 @@ use Rattle.replacements.proofs.plan.Plan.blanks.Goals as goal
 pub returns : goal.returns
 returns c =
     let plan = c.self.inside in
-    let view : c.args.self.now ≡ slots_in plan.apart.items plan.entries.now = search rules in
-    subst (λ (decision : Decision). IfSome c.blanks.result (λ count. decision ≡ Spaces count)) (ap (λ (slot : Option Slot). decision_of slot) (sym (slot_is plan.apart.items plan.entries.now c.args.self.now c.args.place view c.requires)))
-    (c.blanks.ensures plan.apart.items)
+    let view : c.args.self.now ≡ slots_in plan.width plan.apart.items plan.entries.now = search rules in
+    subst (λ (decision : Decision). IfSome c.blanks.result (λ count. decision ≡ Spaces count)) (ap (λ (slot : Option Slot). decision_of slot) (sym (slot_is plan.width plan.apart.items plan.entries.now c.args.self.now c.args.place view c.requires)))
+    (c.blanks.ensures plan.width plan.apart.items)

@@ -12,7 +12,7 @@ returns c =
     let count : ℕ = length c.args.arena.now.tokens + 1 in
     let open_all : c.into_bump_slice_mut.result.now ≡ replicate count Open = search rules in
     let none : c.in_ok-apart.apart.items ≡ [] = search rules in
-    ap (λ (entries : List Entry). slots_in c.in_ok-apart.apart.items entries) open_all ∙ (ap (λ (apart : List Slot). slots_in apart (replicate count Open)) none ∙ all_open count)
+    ap (λ (entries : List Entry). slots_in c.unwrap_or.result c.in_ok-apart.apart.items entries) open_all ∙ (ap (λ (apart : List Slot). slots_in c.unwrap_or.result apart (replicate count Open)) none ∙ all_open c.unwrap_or.result count)
 
 pub invariant_of-result : goal.invariant_of-result
 invariant_of-result c =
