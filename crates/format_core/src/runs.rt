@@ -216,10 +216,10 @@ fn clear(room: &mut Bump, alloc: Global) {
     }
 }
 
-/// Empties the room in which the end of a part of so many items was looked for, where they are many.
-fn clear_behind(items: u32, room: &mut Bump, alloc: Global) {
+/// Gives back the room in which the end of a part of so many items was looked for, where they are many.
+fn give_back_behind(items: u32, room: &mut Bump, alloc: Global) {
     if items >= LARGE_PART {
-        clear(room, alloc);
+        *room = Bump::new(alloc);
     }
 }
 
@@ -292,7 +292,7 @@ fn lay_out_next<'k>(
     if part.told.is_none() && window.end < arena.len() {
         return Ok(None);
     }
-    clear_behind(part.end.saturating_sub(first), room, context.alloc);
+    give_back_behind(part.end.saturating_sub(first), room, context.alloc);
     lay_out_part(
         context, window, id, inside, first, part.end, made, begun, room,
     )?;

@@ -12,6 +12,7 @@ mod lines;
 mod past_budget;
 mod report;
 mod roles;
+mod rooms;
 mod row;
 mod short_row;
 mod view;

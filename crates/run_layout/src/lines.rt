@@ -25,6 +25,7 @@ use crate::broken::{OpenLine, write_broken};
 use crate::laid::Laid;
 use crate::past_budget::line_cells_past;
 use crate::report::{Tally, note_line};
+use crate::rooms::LineRooms;
 use crate::row::{is_open_row, write_row};
 use crate::short_row::{few_tokens, short_row, write_short_row};
 use break_search::{Outcome, search};
@@ -319,7 +320,7 @@ fn lay_out_other_line(
     segment: &mut usize,
     cursor: &mut InputCursor,
     plan: &mut Plan<'_>,
-    run: &Bump,
+    rooms: &mut LineRooms<'_>,
 ) -> Result<Laid, NoMemory>
     requires ready { IsReady layout.now }
     requires tell { TellBlanks layout.now.style.now blanks.now.of_group }
@@ -343,6 +344,7 @@ fn lay_out_other_line(
         report_line(layout, line, cursor, plan);
         return Ok(Laid::Over { cells });
     }
+    let run = rooms.next(layout.alloc);
     let end = line.last as usize + 1;
     let tokens = layout.tokens.between(line.first as usize, end, run)?;
     if lay_out_row(layout, line, tokens, blanks, plan) {
@@ -362,7 +364,7 @@ fn lay_out_line(
     segment: &mut usize,
     cursor: &mut InputCursor,
     plan: &mut Plan<'_>,
-    run: &Bump,
+    rooms: &mut LineRooms<'_>,
 ) -> Result<Laid, NoMemory>
     requires ready { IsReady layout.now }
     requires tell { TellBlanks layout.now.style.now blanks.now.of_group }
@@ -383,7 +385,7 @@ fn lay_out_line(
     if lay_out_short_row(layout, line, blanks, few, segment, plan) {
         return Ok(Laid::Least { cost: 0 });
     }
-    lay_out_other_line(layout, line, blanks, segment, cursor, plan, run)
+    lay_out_other_line(layout, line, blanks, segment, cursor, plan, rooms)
 }
 
 /// Lays out the lines of a run: decides the gap before each item of a view, which these lines cut, where it is open.
@@ -420,6 +422,7 @@ pub fn lay_out_lines(
         column: 0,
     };
     let blanks = RowBlanks::of(layout.style);
+    let mut rooms = LineRooms::of(layout, run);
     let few = few_tokens(layout.style, layout.budget);
     for line in lines {
         let laid = lay_out_line(
@@ -430,7 +433,7 @@ pub fn lay_out_lines(
             &mut segment,
             &mut cursor,
             plan,
-            run,
+            &mut rooms,
         )?;
         note_line(layout.arena, layout.view, number, line.first, laid, tally)?;
     }
