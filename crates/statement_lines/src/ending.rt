@@ -38,7 +38,7 @@ fn skip_line(
             push_open(stack, opened)?;
             return Ok(Place {
                 start: Start::Closing(block),
-                at: block.end,
+                at: block.end as usize,
             });
         }
         stack.clear();
@@ -86,7 +86,7 @@ pub fn end_level(
         at: 0,
     };
     while let Some(o) = stack.pop() {
-        if place.at >= o.end {
+        if place.at >= o.end as usize {
             return Ok(level_of_list(o, &stack));
         }
         let f = form_of(braces, tokens, colons, o, place.start, place.at);

@@ -28,7 +28,7 @@ use token_classes::TokenClass;
 #[inline(always)]
 fn block_at(
     tokens: &CodeTokens<'_>,
-    end: usize,
+    end: u32,
     place: usize,
     context: Context,
     head: Head,
@@ -45,7 +45,7 @@ fn block_at(
         context,
         level,
         case_level: level,
-        end: block_end(tokens, end, place),
+        end: block_end(tokens, end as usize, place) as u32,
         head,
         head_level,
         assigned: false,
@@ -74,7 +74,7 @@ fn label_form(
         kind,
         level,
         end: next,
-        next: if seen(tokens, opened.end, next).is_open_brace() {
+        next: if seen(tokens, opened.end as usize, next).is_open_brace() {
             Next::Opens(
                 wrapped,
                 block_at(
@@ -124,9 +124,10 @@ fn label(
     ensures level { IfSome result (λ f. f.level ≤ 2 * at) }
 {
     let c = class_at(tokens, at);
+    let end = opened.end as usize;
     if c.is_case() {
-        let colon = colons::label_colon(tokens, colons, opened.end, at);
-        if colon < opened.end {
+        let colon = colons::label_colon(tokens, colons, end, at);
+        if colon < end {
             return Some(label_form(
                 tokens,
                 opened,
@@ -137,7 +138,7 @@ fn label(
             ));
         }
     }
-    if !seen(tokens, opened.end, at + 1).is_colon() {
+    if !seen(tokens, end, at + 1).is_colon() {
         return None;
     }
     if c.is_default() {
@@ -207,7 +208,7 @@ fn head_of(tokens: &CodeTokens<'_>, end: usize, at: usize) -> Head
 fn control_block(
     braces: &Braces,
     tokens: &CodeTokens<'_>,
-    end: usize,
+    end: u32,
     place: usize,
     head: Head,
     level: u32,
@@ -233,7 +234,7 @@ fn control_block(
             context: Context::Code,
             level: case_level + 1,
             case_level,
-            end: block_end(tokens, end, place),
+            end: block_end(tokens, end as usize, place) as u32,
             head,
             head_level: level,
             assigned: false,
@@ -279,14 +280,15 @@ fn control_form(
     ensures stays { StaysIn at opened result result.next }
     ensures level { result.level ≡ level }
 {
+    let end = opened.end as usize;
     let from = behind_close(closes, at);
-    let h = header_end(tokens, opened.end, from);
-    let head = head_of(tokens, opened.end, from);
+    let h = header_end(tokens, end, from);
+    let head = head_of(tokens, end, from);
     Form {
         kind: kind_or_close(closes, LineKind::Control),
         level,
         end: h,
-        next: if seen(tokens, opened.end, h).is_open_brace() {
+        next: if seen(tokens, end, h).is_open_brace() {
             Next::Opens(
                 braces.after_control,
                 control_block(braces, tokens, opened.end, h, head, level),
@@ -400,8 +402,9 @@ fn other_form(
     ensures stays { StaysIn at opened result result.next }
     ensures level { result.level ≡ level }
 {
+    let end = opened.end as usize;
     let from = behind_close(closes, at);
-    let stop = scans::statement_stop(tokens, opened.end, from, assigned);
+    let stop = scans::statement_stop(tokens, end, from, assigned);
     if stop.opens {
         let tag = scans::tag_before(tokens, from, stop.at);
         let head = if tag.is_struct() || tag.is_union() || tag.is_enum() {
@@ -420,7 +423,7 @@ fn other_form(
                     context: tagged_context(tag),
                     level: level + 1,
                     case_level: level + 1,
-                    end: block_end(tokens, opened.end, stop.at),
+                    end: block_end(tokens, end, stop.at) as u32,
                     head,
                     head_level: level,
                     assigned: stop.assigned,
@@ -536,9 +539,10 @@ fn unlabelled(braces: &Braces, tokens: &CodeTokens<'_>, opened: Open, at: usize)
     ensures level { result.level ≤ 2 * at }
 {
     let c = class_at(tokens, at);
+    let end = opened.end as usize;
     if opened.context.is_code() && c.is_plain() {
-        let g = after_group(tokens, opened.end, at + 1);
-        if at + 1 < g && seen(tokens, opened.end, g).is_open_brace() {
+        let g = after_group(tokens, end, at + 1);
+        if at + 1 < g && seen(tokens, end, g).is_open_brace() {
             return opens_code(tokens, opened, LineKind::Control, g, braces.after_control);
         }
     }
@@ -546,12 +550,12 @@ fn unlabelled(braces: &Braces, tokens: &CodeTokens<'_>, opened: Open, at: usize)
         return opens_code(tokens, opened, LineKind::Brace, at, false);
     }
     if c.is_extern()
-        && seen(tokens, opened.end, at + 1).is_text()
-        && seen(tokens, opened.end, at + 2).is_open_brace()
+        && seen(tokens, end, at + 1).is_text()
+        && seen(tokens, end, at + 2).is_open_brace()
     {
         return extern_form(braces, tokens, opened, at);
     }
-    let m = macro_end(tokens, opened.end, at);
+    let m = macro_end(tokens, end, at);
     if at < m {
         return line_alone(LineKind::MacroLine, opened.level, m);
     }
@@ -582,7 +586,7 @@ pub(crate) fn statement(
         return line_alone(
             LineKind::Enumerator,
             opened.level,
-            scans::enumerator_end(tokens, opened.end, at),
+            scans::enumerator_end(tokens, opened.end as usize, at),
         );
     }
     if c.is_close_brace() && has_no_partner(tokens, at) {
@@ -615,10 +619,11 @@ pub(crate) fn close_form(
     ensures level { result.level ≤ 2 * at }
 {
     let level = around.head_level;
+    let end = opened.end as usize;
     if matches!(around.head, Head::Tagged) {
         return other_form(braces, tokens, opened, true, level, at, around.assigned);
     }
-    if around.head.is_do() && at + 1 < tail_end(tokens, opened.end, at + 1) {
+    if around.head.is_do() && at + 1 < tail_end(tokens, end, at + 1) {
         if braces.before_while {
             return Form {
                 kind: LineKind::Close,
@@ -627,12 +632,12 @@ pub(crate) fn close_form(
                 next: Next::Goes(Start::Tail),
             };
         }
-        return line_alone(LineKind::Close, level, tail_end(tokens, opened.end, at + 1));
+        return line_alone(LineKind::Close, level, tail_end(tokens, end, at + 1));
     }
-    if seen(tokens, opened.end, at + 1).is_semicolon() {
+    if seen(tokens, end, at + 1).is_semicolon() {
         return line_alone(LineKind::Close, level, at + 2);
     }
-    if around.head.is_if() && seen(tokens, opened.end, at + 1).is_else() {
+    if around.head.is_if() && seen(tokens, end, at + 1).is_else() {
         if braces.before_else {
             return Form {
                 kind: LineKind::Close,
@@ -667,12 +672,13 @@ pub(crate) fn form_of(
     ensures stays { StaysIn at opened result result.next }
     ensures level { result.level ≤ 2 * at }
 {
+    let end = opened.end as usize;
     let count = tokens.count();
-    prove!(opened.end <= count);
+    prove!(end <= count);
     match start {
         Start::Fresh => {}
         Start::Tail => {
-            let t = tail_end(tokens, opened.end, at);
+            let t = tail_end(tokens, end, at);
             if at < t {
                 return line_alone(LineKind::Control, opened.level, t);
             }

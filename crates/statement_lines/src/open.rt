@@ -68,7 +68,7 @@ impl Head {
 #[derive(Clone, Copy, Drop)]
 pub struct Open {
     /// The first place behind it: its `}`, or the end of the list around it.
-    pub end: usize,
+    pub end: u32,
     /// The level of its statements.
     pub level: u32,
     /// The level of its case labels.
@@ -85,7 +85,7 @@ pub struct Open {
     pub assigned: bool,
 }
 
-const _: () = prove!(size_of::<Open>() <= 24);
+const _: () = prove!(size_of::<Open>() <= 20);
 
 /// What begins at a place.
 #[derive(Clone, Copy, Drop)]

@@ -19,11 +19,12 @@ fn is_no_case(tokens: &CodeTokens<'_>, opened: Open, at: usize) -> bool
     ensures { result ≡ true → (braces : Braces) →
         statement braces tokens.now opened at ≡ other_form braces tokens.now opened false opened.level at false }
 {
-    if opened.end <= at {
+    let end = opened.end as usize;
+    if end <= at {
         return false;
     }
     let count = tokens.count();
-    prove!(opened.end <= count);
+    prove!(end <= count);
     let class = class_at(tokens, at);
     if class.is_control() || class.is_case() || class.is_default() || class.is_extern() {
         return false;
@@ -32,7 +33,7 @@ fn is_no_case(tokens: &CodeTokens<'_>, opened: Open, at: usize) -> bool
         return false;
     }
     // Of most statements what follows their first token tells it, whatever that token is.
-    let next = seen(tokens, opened.end, at + 1);
+    let next = seen(tokens, end, at + 1);
     if !next.is_open_round() && !next.is_colon() && !class.is_capital() {
         return true;
     }
@@ -42,8 +43,8 @@ fn is_no_case(tokens: &CodeTokens<'_>, opened: Open, at: usize) -> bool
     if next.is_colon() || !next.is_open_round() {
         return false;
     }
-    let behind = after_group(tokens, opened.end, at + 1);
-    seen(tokens, opened.end, behind).is_semicolon()
+    let behind = after_group(tokens, end, at + 1);
+    seen(tokens, end, behind).is_semicolon()
 }
 
 /// The end of the line at a place, where its first tokens tell that it is a simple one and leaves all lists open.
@@ -71,6 +72,6 @@ pub(crate) fn simple_end(
     if !opened.block || opened.context.is_enumerators() || !is_no_case(tokens, opened, at) {
         return None;
     }
-    let stop = statement_stop(tokens, opened.end, at, false);
+    let stop = statement_stop(tokens, opened.end as usize, at, false);
     if stop.opens { None } else { Some(stop.at) }
 }

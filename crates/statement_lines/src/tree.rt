@@ -41,10 +41,11 @@ pub(crate) fn settle(tokens: &CodeTokens<'_>, stack: &mut Vec<Open, &Bump>, at: 
             return Start::Fresh;
         }
         stack.pop();
-        if o.head.is_if() && seen(tokens, o.end, at).is_else() {
+        let end = o.end as usize;
+        if o.head.is_if() && seen(tokens, end, at).is_else() {
             return Start::Fresh;
         }
-        if o.head.is_do() && at < tail_end(tokens, o.end, at) {
+        if o.head.is_do() && at < tail_end(tokens, end, at) {
             return Start::Tail;
         }
     }
@@ -161,6 +162,7 @@ pub(crate) fn body_of(opened: Open, head: Head, level: u32) -> Open
 
 /// All tokens as a list.
 pub(crate) fn whole_file(tokens: &CodeTokens<'_>) -> Open
+    requires few { length tokens.now < 2 ^ 30 }
     ensures { result ≡ whole_file tokens.now }
 {
     Open {
@@ -168,7 +170,7 @@ pub(crate) fn whole_file(tokens: &CodeTokens<'_>) -> Open
         context: Context::File,
         level: 0,
         case_level: 0,
-        end: tokens.count(),
+        end: tokens.count() as u32,
         head: Head::Plain,
         head_level: 0,
         assigned: false,
@@ -194,13 +196,13 @@ fn leave_list(
     if opened.block {
         return Place {
             start: Start::Closing(opened),
-            at: opened.end,
+            at: opened.end as usize,
         };
     }
     match leave(stack) {
         Some(b) => Place {
             start: Start::Closing(b),
-            at: b.end,
+            at: b.end as usize,
         },
         None => place,
     }
@@ -360,8 +362,9 @@ fn turn(
         2 * (length tokens.now - p.at) + length stack.new.items
         < 2 * (length tokens.now - from.at) + length stack.old.items + 1) }
 {
+    let list_end = opened.end as usize;
     let mut place = from;
-    while place.at < opened.end {
+    while place.at < list_end {
         let Some(end) = simple_end(tokens, opened, place.start, place.at) else {
             let formed = form_of(braces, tokens, colons, opened, place.start, place.at);
             let Some(start) = start_behind(opened, formed) else {

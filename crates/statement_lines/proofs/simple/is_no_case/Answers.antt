@@ -7,8 +7,8 @@ use Rattle.statement_lines.proofs.Known.{known}
 use Rattle.statement_lines.proofs.SimpleLemmas.{call_rest, name_rest, other_rest}
 use Rattle.statement_lines.proofs.simple.is_no_case.Goals as goal
 
-pub returns-then-opened-at : goal.returns-then-opened-at
-returns-then-opened-at c = λ e braces. absurd (false≢true e)
+pub returns-then-end-at : goal.returns-then-end-at
+returns-then-end-at c = λ e braces. absurd (false≢true e)
 
 pub returns-then-is_control : goal.returns-then-is_control
 returns-then-is_control c = λ e braces. absurd (false≢true e)
