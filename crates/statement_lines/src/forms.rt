@@ -123,9 +123,9 @@ fn label(
     ensures stays { IfSome result (λ f. StaysIn at opened f f.next) }
     ensures level { IfSome result (λ f. f.level ≤ 2 * at) }
 {
-    let c = class_at(tokens, at);
+    let class = class_at(tokens, at);
     let end = opened.end as usize;
-    if c.is_case() {
+    if class.is_case() {
         let colon = colons::label_colon(tokens, colons, end, at);
         if colon < end {
             return Some(label_form(
@@ -141,7 +141,7 @@ fn label(
     if !seen(tokens, end, at + 1).is_colon() {
         return None;
     }
-    if c.is_default() {
+    if class.is_default() {
         return Some(label_form(
             tokens,
             opened,
@@ -151,7 +151,7 @@ fn label(
             at + 1,
         ));
     }
-    if c.is_plain() && opened.context.is_code() && !tokens.touched_at(at + 1) {
+    if class.is_plain() && opened.context.is_code() && !tokens.touched_at(at + 1) {
         return Some(label_form(
             tokens,
             opened,
@@ -174,10 +174,10 @@ fn header_end(tokens: &CodeTokens<'_>, end: usize, at: usize) -> usize
     ensures least { at < result }
     ensures most { result ≤ end }
 {
-    let c = class_at(tokens, at);
-    if c.is_do() {
+    let class = class_at(tokens, at);
+    if class.is_do() {
         at + 1
-    } else if !c.is_else() {
+    } else if !class.is_else() {
         after_group(tokens, end, at + 1)
     } else if seen(tokens, end, at + 1).is_if() {
         after_group(tokens, end, at + 2)
@@ -192,12 +192,12 @@ fn head_of(tokens: &CodeTokens<'_>, end: usize, at: usize) -> Head
     requires list { end ≤ length tokens.now }
     ensures { result ≡ head_of tokens.now end at }
 {
-    let c = class_at(tokens, at);
-    if c.is_if() || (c.is_else() && seen(tokens, end, at + 1).is_if()) {
+    let class = class_at(tokens, at);
+    if class.is_if() || (class.is_else() && seen(tokens, end, at + 1).is_if()) {
         Head::If
-    } else if c.is_do() {
+    } else if class.is_do() {
         Head::Do
-    } else if c.is_switch() {
+    } else if class.is_switch() {
         Head::Switch
     } else {
         Head::Plain
@@ -282,16 +282,16 @@ fn control_form(
 {
     let end = opened.end as usize;
     let from = behind_close(closes, at);
-    let h = header_end(tokens, end, from);
+    let behind = header_end(tokens, end, from);
     let head = head_of(tokens, end, from);
     Form {
         kind: kind_or_close(closes, LineKind::Control),
         level,
-        end: h,
-        next: if seen(tokens, end, h).is_open_brace() {
+        end: behind,
+        next: if seen(tokens, end, behind).is_open_brace() {
             Next::Opens(
                 braces.after_control,
-                control_block(braces, tokens, opened.end, h, head, level),
+                control_block(braces, tokens, opened.end, behind, head, level),
             )
         } else {
             Next::Waits(head)
@@ -307,9 +307,12 @@ pub(crate) fn tail_end(tokens: &CodeTokens<'_>, end: usize, place: usize) -> usi
     ensures least { place ≤ result }
     ensures most { place < result → result ≤ end }
 {
-    let g = after_group(tokens, end, place + 1);
-    if seen(tokens, end, place).is_while() && place + 1 < g && seen(tokens, end, g).is_semicolon() {
-        g + 1
+    let group_end = after_group(tokens, end, place + 1);
+    if seen(tokens, end, place).is_while()
+        && place + 1 < group_end
+        && seen(tokens, end, group_end).is_semicolon()
+    {
+        group_end + 1
     } else {
         place
     }
@@ -332,13 +335,13 @@ fn macro_end(tokens: &CodeTokens<'_>, end: usize, at: usize) -> usize
     ensures least { at ≤ result }
     ensures most { result ≤ end }
 {
-    let c = class_at(tokens, at);
-    if !c.is_plain() {
+    let class = class_at(tokens, at);
+    if !class.is_plain() {
         return at;
     }
-    let g = after_group(tokens, end, at + 1);
-    if (at + 1 < g || c.is_capital()) && ends_macro(tokens, g) {
-        g
+    let group_end = after_group(tokens, end, at + 1);
+    if (at + 1 < group_end || class.is_capital()) && ends_macro(tokens, group_end) {
+        group_end
     } else {
         at
     }
@@ -538,26 +541,32 @@ fn unlabelled(braces: &Braces, tokens: &CodeTokens<'_>, opened: Open, at: usize)
     ensures stays { StaysIn at opened result result.next }
     ensures level { result.level ≤ 2 * at }
 {
-    let c = class_at(tokens, at);
+    let class = class_at(tokens, at);
     let end = opened.end as usize;
-    if opened.context.is_code() && c.is_plain() {
-        let g = after_group(tokens, end, at + 1);
-        if at + 1 < g && seen(tokens, end, g).is_open_brace() {
-            return opens_code(tokens, opened, LineKind::Control, g, braces.after_control);
+    if opened.context.is_code() && class.is_plain() {
+        let group_end = after_group(tokens, end, at + 1);
+        if at + 1 < group_end && seen(tokens, end, group_end).is_open_brace() {
+            return opens_code(
+                tokens,
+                opened,
+                LineKind::Control,
+                group_end,
+                braces.after_control,
+            );
         }
     }
-    if c.is_open_brace() {
+    if class.is_open_brace() {
         return opens_code(tokens, opened, LineKind::Brace, at, false);
     }
-    if c.is_extern()
+    if class.is_extern()
         && seen(tokens, end, at + 1).is_text()
         && seen(tokens, end, at + 2).is_open_brace()
     {
         return extern_form(braces, tokens, opened, at);
     }
-    let m = macro_end(tokens, end, at);
-    if at < m {
-        return line_alone(LineKind::MacroLine, opened.level, m);
+    let line_end = macro_end(tokens, end, at);
+    if at < line_end {
+        return line_alone(LineKind::MacroLine, opened.level, line_end);
     }
     other_form(braces, tokens, opened, false, opened.level, at, false)
 }
@@ -581,7 +590,7 @@ pub(crate) fn statement(
     ensures stays { StaysIn at opened result result.next }
     ensures level { result.level ≤ 2 * at }
 {
-    let c = class_at(tokens, at);
+    let class = class_at(tokens, at);
     if opened.context.is_enumerators() {
         return line_alone(
             LineKind::Enumerator,
@@ -589,13 +598,13 @@ pub(crate) fn statement(
             scans::enumerator_end(tokens, opened.end as usize, at),
         );
     }
-    if c.is_close_brace() && has_no_partner(tokens, at) {
+    if class.is_close_brace() && has_no_partner(tokens, at) {
         return line_alone(LineKind::Close, opened.level, at + 1);
     }
-    if let Some(f) = label(braces, tokens, colons, opened, at) {
-        return f;
+    if let Some(form) = label(braces, tokens, colons, opened, at) {
+        return form;
     }
-    if c.is_control() {
+    if class.is_control() {
         return control_form(braces, tokens, opened, false, opened.level, at);
     }
     unlabelled(braces, tokens, opened, at)
@@ -678,12 +687,12 @@ pub(crate) fn form_of(
     match start {
         Start::Fresh => {}
         Start::Tail => {
-            let t = tail_end(tokens, end, at);
-            if at < t {
-                return line_alone(LineKind::Control, opened.level, t);
+            let behind = tail_end(tokens, end, at);
+            if at < behind {
+                return line_alone(LineKind::Control, opened.level, behind);
             }
         }
-        Start::Closing(b) => return close_form(braces, tokens, opened, b, at),
+        Start::Closing(block) => return close_form(braces, tokens, opened, block, at),
     }
     statement(braces, tokens, colons, opened, at)
 }
