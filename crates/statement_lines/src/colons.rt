@@ -47,20 +47,20 @@ fn scan_colon(tokens: &CodeTokens<'_>, end: usize, at: usize) -> usize
     ensures least { at < result }
     ensures most { result ≤ end }
 {
-    let mut i = at + 1;
+    let mut place = at + 1;
     let mut asked: usize = 0;
-    while i < end {
-        let class = class_at(tokens, i);
+    while place < end {
+        let class = class_at(tokens, place);
         if class.is_question() {
             asked += 1;
-            i += 1;
+            place += 1;
         } else if !class.is_colon() {
-            i = step_over(tokens, end, i);
+            place = step_over(tokens, end, place);
         } else if asked == 0 {
-            return i;
+            return place;
         } else {
             asked -= 1;
-            i += 1;
+            place += 1;
         }
     }
     end

@@ -59,9 +59,9 @@ fn level_of_list(innermost: Open, below: &[Open]) -> u32
     if innermost.block {
         return innermost.level;
     }
-    for i in (0..below.len()).rev() {
-        if below[i].block {
-            return below[i].level;
+    for depth in (0..below.len()).rev() {
+        if below[depth].block {
+            return below[depth].level;
         }
     }
     0
@@ -85,12 +85,12 @@ pub fn end_level(
         start: Start::Fresh,
         at: 0,
     };
-    while let Some(o) = stack.pop() {
-        if place.at >= o.end as usize {
-            return Ok(level_of_list(o, &stack));
+    while let Some(opened) = stack.pop() {
+        if place.at >= opened.end as usize {
+            return Ok(level_of_list(opened, &stack));
         }
-        let f = form_of(braces, tokens, colons, o, place.start, place.at);
-        place = skip_line(braces, tokens, &mut stack, o, place, f)?;
+        let form = form_of(braces, tokens, colons, opened, place.start, place.at);
+        place = skip_line(braces, tokens, &mut stack, opened, place, form)?;
     }
     Ok(0)
 }

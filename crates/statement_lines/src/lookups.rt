@@ -42,9 +42,13 @@ pub(crate) fn partner_in(tokens: &CodeTokens<'_>, end: usize, opener: usize) -> 
     ensures inside { IfSome result (λ p. (opener < p) × (p < end)) }
 {
     match tokens.partner_at(opener) {
-        Some(place) => {
-            let p = place as usize;
-            if opener < p && p < end { Some(p) } else { None }
+        Some(partner) => {
+            let place = partner as usize;
+            if opener < place && place < end {
+                Some(place)
+            } else {
+                None
+            }
         }
         None => None,
     }
@@ -59,7 +63,7 @@ pub(crate) fn after_group(tokens: &CodeTokens<'_>, end: usize, place: usize) -> 
 {
     if seen(tokens, end, place).is_open_round() {
         match partner_in(tokens, end, place) {
-            Some(p) => p + 1,
+            Some(closer) => closer + 1,
             None => place,
         }
     } else {
@@ -78,7 +82,7 @@ pub(crate) fn step_over(tokens: &CodeTokens<'_>, end: usize, place: usize) -> us
 {
     if class_at(tokens, place).is_opener() {
         match partner_in(tokens, end, place) {
-            Some(p) => p + 1,
+            Some(closer) => closer + 1,
             None => end,
         }
     } else {
@@ -95,7 +99,7 @@ pub(crate) fn block_end(tokens: &CodeTokens<'_>, end: usize, place: usize) -> us
     ensures most { result ≤ end }
 {
     match partner_in(tokens, end, place) {
-        Some(p) => p,
+        Some(closer) => closer,
         None => end,
     }
 }

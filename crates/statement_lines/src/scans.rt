@@ -21,12 +21,12 @@ pub(crate) fn enumerator_end(tokens: &CodeTokens<'_>, end: usize, at: usize) -> 
     ensures least { at < result }
     ensures most { result ≤ end }
 {
-    let mut i = at;
-    while i < end {
-        if class_at(tokens, i).is_comma() {
-            return i + 1;
+    let mut place = at;
+    while place < end {
+        if class_at(tokens, place).is_comma() {
+            return place + 1;
         }
-        i = step_over(tokens, end, i);
+        place = step_over(tokens, end, place);
     }
     end
 }
@@ -99,30 +99,30 @@ pub(crate) fn statement_stop(
     // The compiler, told that the end stands within the tokens, leaves the checks of bounds out of the loop.
     let count = tokens.count();
     prove!(end <= count);
-    let mut i = from;
+    let mut place = from;
     let mut assigned = assigned;
-    while i < end {
-        let class = class_at(tokens, i);
+    while place < end {
+        let class = class_at(tokens, place);
         if is_still(class) {
-            i += 1;
+            place += 1;
             continue;
         }
         if class.is_semicolon() {
             return Stop {
-                at: i + 1,
+                at: place + 1,
                 opens: false,
                 assigned,
             };
         }
-        if opens_block(tokens, assigned, i) {
+        if opens_block(tokens, assigned, place) {
             return Stop {
-                at: i,
+                at: place,
                 opens: true,
                 assigned,
             };
         }
-        assigned = assigns(tokens, assigned, i);
-        i = step_over(tokens, end, i);
+        assigned = assigns(tokens, assigned, place);
+        place = step_over(tokens, end, place);
     }
     Stop {
         at: end,
@@ -138,9 +138,9 @@ fn call_opener(tokens: &CodeTokens<'_>, first: usize, place: usize) -> usize
     ensures most { 0 < result → result < place }
 {
     if class_at(tokens, place - 1).is_close_round() {
-        let o = behind(tokens, first, place - 1);
-        if o > 0 && class_at(tokens, o - 1).is_call_word() {
-            o
+        let opener = behind(tokens, first, place - 1);
+        if opener > 0 && class_at(tokens, opener - 1).is_call_word() {
+            opener
         } else {
             0
         }
@@ -155,9 +155,13 @@ fn behind(tokens: &CodeTokens<'_>, first: usize, at: usize) -> usize
     ensures most { 0 < result → result < at }
 {
     match tokens.partner_at(at) {
-        Some(place) => {
-            let p = place as usize;
-            if first < p && p < at { p } else { 0 }
+        Some(partner) => {
+            let place = partner as usize;
+            if first < place && place < at {
+                place
+            } else {
+                0
+            }
         }
         None => 0,
     }
@@ -170,24 +174,24 @@ pub(crate) fn tag_before(tokens: &CodeTokens<'_>, first: usize, brace: usize) ->
     requires { brace ≤ length tokens.now }
     ensures { result ≡ tag_before (brace - first) tokens.now first brace Nothing }
 {
-    let mut i = brace;
+    let mut place = brace;
     let mut found = TokenClass::Nothing;
-    while first < i {
-        let c = class_at(tokens, i - 1);
-        if is_member_word(c) {
-            return c;
+    while first < place {
+        let class = class_at(tokens, place - 1);
+        if is_member_word(class) {
+            return class;
         }
-        if c.is_word() {
-            if c.is_enum() {
-                found = c;
+        if class.is_word() {
+            if class.is_enum() {
+                found = class;
             }
-            i -= 1;
+            place -= 1;
         } else {
-            let o = call_opener(tokens, first, i);
-            if o == 0 {
+            let opener = call_opener(tokens, first, place);
+            if opener == 0 {
                 return found;
             }
-            i = o;
+            place = opener;
         }
     }
     found

@@ -36,16 +36,16 @@ pub(crate) fn settle(tokens: &CodeTokens<'_>, stack: &mut Vec<Open, &Bump>, at: 
         ≡ record { opens = reverse stack.new.items; start = result } }
     ensures fewer { length stack.new.items ≤ length stack.old.items }
 {
-    while let Some(o) = stack.last().copied() {
-        if o.block {
+    while let Some(innermost) = stack.last().copied() {
+        if innermost.block {
             return Start::Fresh;
         }
         stack.pop();
-        let end = o.end as usize;
-        if o.head.is_if() && seen(tokens, end, at).is_else() {
+        let end = innermost.end as usize;
+        if innermost.head.is_if() && seen(tokens, end, at).is_else() {
             return Start::Fresh;
         }
-        if o.head.is_do() && at < tail_end(tokens, end, at) {
+        if innermost.head.is_do() && at < tail_end(tokens, end, at) {
             return Start::Tail;
         }
     }
@@ -72,9 +72,9 @@ fn leave(stack: &mut Vec<Open, &Bump>) -> Option<Open>
     ensures none { IfNone result (left (reverse stack.old.items) ≡ None) }
     ensures fewer { IfSome result (λ b. length stack.new.items < length stack.old.items) }
 {
-    while let Some(o) = stack.pop() {
-        if o.block {
-            return Some(o);
+    while let Some(innermost) = stack.pop() {
+        if innermost.block {
+            return Some(innermost);
         }
     }
     None
@@ -200,9 +200,9 @@ fn leave_list(
         };
     }
     match leave(stack) {
-        Some(b) => Place {
-            start: Start::Closing(b),
-            at: b.end as usize,
+        Some(block) => Place {
+            start: Start::Closing(block),
+            at: block.end as usize,
         },
         None => place,
     }
@@ -317,8 +317,8 @@ pub fn tree_lines<'r>(
         start: Start::Fresh,
         at: 0,
     };
-    while let Some(o) = stack.pop() {
-        place = turn(braces, tokens, colons, &mut out, &mut stack, o, place)?;
+    while let Some(opened) = stack.pop() {
+        place = turn(braces, tokens, colons, &mut out, &mut stack, opened, place)?;
     }
     Ok(out)
 }
