@@ -8,7 +8,7 @@ ghost use Rattle.std.specs.Prelude.{◌≡◌, ◌<◌, ◌≤◌, ◌+◌, ◌-
 ghost use Rattle.statement_lines.specs.Forms.{case_colon};
 ghost use Rattle.statement_lines.specs.Colons.{AreColonsFrom, AreCaseColons};
 
-use crate::lookups::{class_at, step_over};
+use crate::lookups::step_over;
 use crate::token::CodeTokens;
 use bumpalo::Bump;
 use line_tokens::NoMemory;
@@ -24,7 +24,7 @@ fn colon_from(tokens: &CodeTokens<'_>, colons: &[u32], place: usize) -> usize
     ensures { result ≡ case_colon (length tokens.now - place) tokens.now (length tokens.now) place 0 }
 {
     let count = tokens.count();
-    let class = class_at(tokens, place);
+    let class = tokens.class_at(place);
     if class.is_question() {
         let answer = colons[place + 1] as usize;
         if answer < count {
@@ -50,7 +50,7 @@ fn scan_colon(tokens: &CodeTokens<'_>, end: usize, at: usize) -> usize
     let mut place = at + 1;
     let mut asked: usize = 0;
     while place < end {
-        let class = class_at(tokens, place);
+        let class = tokens.class_at(place);
         if class.is_question() {
             asked += 1;
             place += 1;

@@ -22,18 +22,18 @@ fn skip_line(
     stack: &mut Vec<Open, &Bump>,
     opened: Open,
     place: Place,
-    formed: Form,
+    form: Form,
 ) -> Result<Place, NoMemory>
-    requires small { length tokens.now < 2 ^ 30 }
+    requires few { length tokens.now < 2 ^ 30 }
     requires leads { LeadsToEnd braces.now tokens.now (opened ∷ reverse stack.old.items) place.start place.at }
     requires here { place.at < opened.end }
-    requires form { form_of braces.now tokens.now opened place.start place.at ≡ formed }
-    requires stays { StaysIn place.at opened formed formed.next }
-    requires level { formed.level ≤ 2 * place.at }
+    requires form { form_of braces.now tokens.now opened place.start place.at ≡ form }
+    requires stays { StaysIn place.at opened form form.next }
+    requires level { form.level ≤ 2 * place.at }
     ensures leads { IfOk result (λ p. LeadsToEnd braces.now tokens.now (reverse stack.new.items) p.start p.at) }
     ensures up { IfOk result (λ p. length tokens.now - p.at < length tokens.now - place.at) }
 {
-    if let Next::Opens(_, block) = formed.next {
+    if let Next::Opens(_, block) = form.next {
         if block.end < opened.end {
             push_open(stack, opened)?;
             return Ok(Place {
@@ -45,11 +45,11 @@ fn skip_line(
         push_open(stack, block)?;
         return Ok(Place {
             start: Start::Fresh,
-            at: formed.end + 1,
+            at: form.end + 1,
         });
     }
     push_open(stack, opened)?;
-    go_behind(tokens, stack, opened, formed)
+    go_behind(tokens, stack, opened, form)
 }
 
 /// The level of the list above which the headers of these wait, the innermost of which stands apart.

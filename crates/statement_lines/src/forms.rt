@@ -17,7 +17,7 @@ ghost use Rattle.statement_lines.specs.Forms.{unlabelled, statement, close_form,
 
 use crate::braces::Braces;
 use crate::form::{Form, Next};
-use crate::lookups::{after_group, block_end, class_at, has_no_partner, seen};
+use crate::lookups::{after_group, block_end, seen};
 use crate::open::{Context, Head, Open, Start};
 use crate::token::CodeTokens;
 use crate::{colons, scans};
@@ -63,7 +63,7 @@ fn label_form(
 ) -> Form
     requires here { colon < opened.end }
     requires list { opened.end ≤ length tokens.now }
-    requires small { length tokens.now < 2 ^ 30 }
+    requires few { length tokens.now < 2 ^ 30 }
     requires low { level < 2 ^ 31 }
     ensures same { result ≡ label_form tokens.now opened kind level wrapped colon }
     ensures stays { StaysIn colon opened result result.next }
@@ -116,14 +116,14 @@ fn label(
     requires colons { AreCaseColons colons.now tokens.now }
     requires here { at < opened.end }
     requires list { opened.end ≤ length tokens.now }
-    requires small { length tokens.now < 2 ^ 30 }
+    requires few { length tokens.now < 2 ^ 30 }
     requires low { opened.level ≤ 2 * at }
     requires case_low { opened.case_level ≤ 2 * at }
     ensures same { result ≡ label braces.now tokens.now opened at }
     ensures stays { IfSome result (λ f. StaysIn at opened f f.next) }
     ensures level { IfSome result (λ f. f.level ≤ 2 * at) }
 {
-    let class = class_at(tokens, at);
+    let class = tokens.class_at(at);
     let end = opened.end as usize;
     if class.is_case() {
         let colon = colons::label_colon(tokens, colons, end, at);
@@ -169,12 +169,12 @@ fn label(
 fn header_end(tokens: &CodeTokens<'_>, end: usize, at: usize) -> usize
     requires here { at < end }
     requires list { end ≤ length tokens.now }
-    requires small { length tokens.now < 2 ^ 30 }
+    requires few { length tokens.now < 2 ^ 30 }
     ensures same { result ≡ header_end tokens.now end at }
     ensures least { at < result }
     ensures most { result ≤ end }
 {
-    let class = class_at(tokens, at);
+    let class = tokens.class_at(at);
     if class.is_do() {
         at + 1
     } else if !class.is_else() {
@@ -192,7 +192,7 @@ fn head_of(tokens: &CodeTokens<'_>, end: usize, at: usize) -> Head
     requires list { end ≤ length tokens.now }
     ensures { result ≡ head_of tokens.now end at }
 {
-    let class = class_at(tokens, at);
+    let class = tokens.class_at(at);
     if class.is_if() || (class.is_else() && seen(tokens, end, at + 1).is_if()) {
         Head::If
     } else if class.is_do() {
@@ -274,7 +274,7 @@ fn control_form(
     requires here { at < opened.end }
     requires header { OnTrue closes (at + 1 < opened.end) }
     requires list { opened.end ≤ length tokens.now }
-    requires small { length tokens.now < 2 ^ 30 }
+    requires few { length tokens.now < 2 ^ 30 }
     requires low { level < 2 ^ 31 }
     ensures same { result ≡ control_form braces.now tokens.now opened closes level at }
     ensures stays { StaysIn at opened result result.next }
@@ -324,7 +324,7 @@ fn ends_macro(tokens: &CodeTokens<'_>, place: usize) -> bool
 {
     tokens.count() <= place
         || (tokens.began_at(place)
-            && (class_at(tokens, place).is_word() || class_at(tokens, place).is_close_brace()))
+            && (tokens.class_at(place).is_word() || tokens.class_at(place).is_close_brace()))
 }
 
 #[inline(always)]
@@ -335,7 +335,7 @@ fn macro_end(tokens: &CodeTokens<'_>, end: usize, at: usize) -> usize
     ensures least { at ≤ result }
     ensures most { result ≤ end }
 {
-    let class = class_at(tokens, at);
+    let class = tokens.class_at(at);
     if !class.is_plain() {
         return at;
     }
@@ -398,7 +398,7 @@ fn other_form(
 ) -> Form
     requires here { at < opened.end }
     requires list { opened.end ≤ length tokens.now }
-    requires small { length tokens.now < 2 ^ 30 }
+    requires few { length tokens.now < 2 ^ 30 }
     requires low { level < 2 ^ 31 }
     requires first { OnFalse closes (is_open_brace (class_at tokens.now at) ≡ false) }
     ensures same { result ≡ other_form braces.now tokens.now opened closes level at assigned }
@@ -535,13 +535,13 @@ fn extern_form(braces: &Braces, tokens: &CodeTokens<'_>, opened: Open, at: usize
 fn unlabelled(braces: &Braces, tokens: &CodeTokens<'_>, opened: Open, at: usize) -> Form
     requires here { at < opened.end }
     requires list { opened.end ≤ length tokens.now }
-    requires small { length tokens.now < 2 ^ 30 }
+    requires few { length tokens.now < 2 ^ 30 }
     requires low { opened.level ≤ 2 * at }
     ensures same { result ≡ unlabelled braces.now tokens.now opened at }
     ensures stays { StaysIn at opened result result.next }
     ensures level { result.level ≤ 2 * at }
 {
-    let class = class_at(tokens, at);
+    let class = tokens.class_at(at);
     let end = opened.end as usize;
     if opened.context.is_code() && class.is_plain() {
         let group_end = after_group(tokens, end, at + 1);
@@ -583,14 +583,14 @@ pub(crate) fn statement(
     requires colons { AreCaseColons colons.now tokens.now }
     requires here { at < opened.end }
     requires list { opened.end ≤ length tokens.now }
-    requires small { length tokens.now < 2 ^ 30 }
+    requires few { length tokens.now < 2 ^ 30 }
     requires low { opened.level ≤ 2 * at }
     requires case_low { opened.case_level ≤ 2 * at }
     ensures same { result ≡ statement braces.now tokens.now opened at }
     ensures stays { StaysIn at opened result result.next }
     ensures level { result.level ≤ 2 * at }
 {
-    let class = class_at(tokens, at);
+    let class = tokens.class_at(at);
     if opened.context.is_enumerators() {
         return line_alone(
             LineKind::Enumerator,
@@ -598,7 +598,7 @@ pub(crate) fn statement(
             scans::enumerator_end(tokens, opened.end as usize, at),
         );
     }
-    if class.is_close_brace() && has_no_partner(tokens, at) {
+    if class.is_close_brace() && tokens.partner_at(at).is_none() {
         return line_alone(LineKind::Close, opened.level, at + 1);
     }
     if let Some(form) = label(braces, tokens, colons, opened, at) {
@@ -621,7 +621,7 @@ pub(crate) fn close_form(
 ) -> Form
     requires here { at < opened.end }
     requires list { opened.end ≤ length tokens.now }
-    requires small { length tokens.now < 2 ^ 30 }
+    requires few { length tokens.now < 2 ^ 30 }
     requires low { around.head_level ≤ 2 * at }
     ensures same { result ≡ close_form braces.now tokens.now opened around at }
     ensures stays { StaysIn at opened result result.next }
@@ -673,7 +673,7 @@ pub(crate) fn form_of(
     requires colons { AreCaseColons colons.now tokens.now }
     requires here { at < opened.end }
     requires list { opened.end ≤ length tokens.now }
-    requires small { length tokens.now < 2 ^ 30 }
+    requires few { length tokens.now < 2 ^ 30 }
     requires low { opened.level ≤ 2 * at }
     requires case_low { opened.case_level ≤ 2 * at }
     requires start_low { IsLow at start }

@@ -1,27 +1,10 @@
 //! What stands at a place of the tokens: its class, its group, its partner.
 
 ghost use Rattle.std.specs.Prelude.{◌≡◌, ◌<◌, ◌≤◌, ◌+◌, ◌-◌, length, IfSome};
-ghost use Rattle.statement_lines.specs.Forms.{class_at, seen, partner_in, after_group, step_over, block_end};
-ghost use Rattle.statement_lines.specs.Forms.{has_no_partner};
+ghost use Rattle.statement_lines.specs.Forms.{seen, partner_in, after_group, step_over, block_end};
 
 use crate::token::CodeTokens;
 use token_classes::TokenClass;
-
-/// The class of the token at a place, `Nothing` behind the last.
-#[inline(always)]
-pub(crate) fn class_at(tokens: &CodeTokens<'_>, place: usize) -> TokenClass
-    ensures { result ≡ class_at tokens.now place }
-{
-    tokens.class_at(place)
-}
-
-/// Whether the token at a place has no partner.
-#[inline(always)]
-pub(crate) fn has_no_partner(tokens: &CodeTokens<'_>, place: usize) -> bool
-    ensures { result ≡ has_no_partner tokens.now place }
-{
-    tokens.partner_at(place).is_none()
-}
 
 /// The class of the token at a place, `Nothing` from `end` on.
 #[inline(always)]
@@ -29,7 +12,7 @@ pub(crate) fn seen(tokens: &CodeTokens<'_>, end: usize, place: usize) -> TokenCl
     ensures { result ≡ seen tokens.now end place }
 {
     if place < end {
-        class_at(tokens, place)
+        tokens.class_at(place)
     } else {
         TokenClass::Nothing
     }
@@ -80,7 +63,7 @@ pub(crate) fn step_over(tokens: &CodeTokens<'_>, end: usize, place: usize) -> us
     ensures least { place < result }
     ensures most { result ≤ end }
 {
-    if class_at(tokens, place).is_opener() {
+    if tokens.class_at(place).is_opener() {
         match partner_in(tokens, end, place) {
             Some(closer) => closer + 1,
             None => end,

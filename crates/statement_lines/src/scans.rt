@@ -8,7 +8,7 @@ ghost use Rattle.statement_lines.specs.Forms.{enumerator_end, statement_stop, ca
 ghost use Rattle.statement_lines.specs.Forms.{partner_of, opens_block, assigns, is_member_word, class_at};
 
 use crate::form::Stop;
-use crate::lookups::{class_at, step_over};
+use crate::lookups::step_over;
 use crate::token::CodeTokens;
 use token_classes::TokenClass;
 
@@ -23,7 +23,7 @@ pub(crate) fn enumerator_end(tokens: &CodeTokens<'_>, end: usize, at: usize) -> 
 {
     let mut place = at;
     while place < end {
-        if class_at(tokens, place).is_comma() {
+        if tokens.class_at(place).is_comma() {
             return place + 1;
         }
         place = step_over(tokens, end, place);
@@ -34,7 +34,7 @@ pub(crate) fn enumerator_end(tokens: &CodeTokens<'_>, end: usize, at: usize) -> 
 fn assigns(tokens: &CodeTokens<'_>, assigned: bool, place: usize) -> bool
     ensures { result ≡ assigns tokens.now assigned place }
 {
-    assigned || class_at(tokens, place).is_assigning()
+    assigned || tokens.class_at(place).is_assigning()
 }
 
 /// `struct` or `union`.
@@ -47,11 +47,11 @@ pub(crate) fn is_member_word(class: TokenClass) -> bool
 fn opens_block(tokens: &CodeTokens<'_>, assigned: bool, place: usize) -> bool
     ensures { result ≡ opens_block tokens.now assigned place }
 {
-    if !class_at(tokens, place).is_open_brace() {
+    if !tokens.class_at(place).is_open_brace() {
         return false;
     }
     let before = if place > 0 {
-        class_at(tokens, place - 1)
+        tokens.class_at(place - 1)
     } else {
         TokenClass::Nothing
     };
@@ -102,7 +102,7 @@ pub(crate) fn statement_stop(
     let mut place = from;
     let mut assigned = assigned;
     while place < end {
-        let class = class_at(tokens, place);
+        let class = tokens.class_at(place);
         if is_still(class) {
             place += 1;
             continue;
@@ -137,9 +137,9 @@ fn call_opener(tokens: &CodeTokens<'_>, first: usize, place: usize) -> usize
     ensures same { result ≡ call_opener tokens.now first place }
     ensures most { 0 < result → result < place }
 {
-    if class_at(tokens, place - 1).is_close_round() {
+    if tokens.class_at(place - 1).is_close_round() {
         let opener = behind(tokens, first, place - 1);
-        if opener > 0 && class_at(tokens, opener - 1).is_call_word() {
+        if opener > 0 && tokens.class_at(opener - 1).is_call_word() {
             opener
         } else {
             0
@@ -177,7 +177,7 @@ pub(crate) fn tag_before(tokens: &CodeTokens<'_>, first: usize, brace: usize) ->
     let mut place = brace;
     let mut found = TokenClass::Nothing;
     while first < place {
-        let class = class_at(tokens, place - 1);
+        let class = tokens.class_at(place - 1);
         if is_member_word(class) {
             return class;
         }

@@ -6,7 +6,7 @@ ghost use Rattle.statement_lines.specs.declared.braces.Braces.{Braces};
 ghost use Rattle.statement_lines.specs.declared.form.Next.TheVariants.{Ends};
 ghost use Rattle.statement_lines.specs.Forms.{form_of, is_enumerators, other_form, statement};
 
-use crate::lookups::{after_group, class_at, seen};
+use crate::lookups::{after_group, seen};
 use crate::open::{Open, Start};
 use crate::scans::statement_stop;
 use crate::token::CodeTokens;
@@ -25,7 +25,7 @@ fn is_no_case(tokens: &CodeTokens<'_>, opened: Open, at: usize) -> bool
     }
     let count = tokens.count();
     prove!(end <= count);
-    let class = class_at(tokens, at);
+    let class = tokens.class_at(at);
     if class.is_control() || class.is_case() || class.is_default() || class.is_extern() {
         return false;
     }

@@ -235,20 +235,20 @@ pub(crate) fn go_behind(
     tokens: &CodeTokens<'_>,
     stack: &mut Vec<Open, &Bump>,
     opened: Open,
-    formed: Form,
+    form: Form,
 ) -> Result<Place, NoMemory>
-    requires end { formed.end < 2 ^ 33 }
-    requires level { formed.level < 2 ^ 31 }
+    requires end { form.end < 2 ^ 33 }
+    requires level { form.level < 2 ^ 31 }
     ensures { IfOk result (λ p.
-        GoesBehind tokens.now opened formed (reverse stack.old.items) (reverse stack.new.items) p.start p.at formed.next
+        GoesBehind tokens.now opened form (reverse stack.old.items) (reverse stack.new.items) p.start p.at form.next
         × (length stack.new.items ≤ length stack.old.items + 1)) }
 {
-    let end = formed.end;
-    let start = match formed.next {
+    let end = form.end;
+    let start = match form.next {
         Next::Ends => settle(tokens, stack, end),
         Next::Goes(start) => start,
         Next::Waits(head) => {
-            push_open(stack, body_of(opened, head, formed.level))?;
+            push_open(stack, body_of(opened, head, form.level))?;
             Start::Fresh
         }
         Next::Opens(_, block) => {
@@ -271,23 +271,23 @@ fn take_line(
     stack: &mut Vec<Open, &Bump>,
     opened: Open,
     place: Place,
-    formed: Form,
+    form: Form,
 ) -> Result<Place, NoMemory>
-    requires small { length tokens.now < 2 ^ 30 }
+    requires few { length tokens.now < 2 ^ 30 }
     requires stands { Stands braces.now tokens.now out.old (opened ∷ reverse stack.old.items) place.start
         place.at }
     requires here { place.at < opened.end }
     requires list { opened.end ≤ length tokens.now }
-    requires form { form_of braces.now tokens.now opened place.start place.at ≡ formed }
-    requires stays { StaysIn place.at opened formed formed.next }
-    requires level { formed.level ≤ 2 * place.at }
+    requires form { form_of braces.now tokens.now opened place.start place.at ≡ form }
+    requires stays { StaysIn place.at opened form form.next }
+    requires level { form.level ≤ 2 * place.at }
     ensures stands { IfOk result
         (λ p. Stands braces.now tokens.now out.new (reverse stack.new.items) p.start p.at) }
     ensures up { IfOk result (λ p. (place.at < p.at) × (length stack.new.items ≤ length stack.old.items + 2)) }
 {
-    push_form(out, opened, place.start, place.at, formed)?;
+    push_form(out, opened, place.start, place.at, form)?;
     push_open(stack, opened)?;
-    go_behind(tokens, stack, opened, formed)
+    go_behind(tokens, stack, opened, form)
 }
 
 /// The lines of tokens that are no comments, where `colons` has the colons of their `case`s.
@@ -325,10 +325,10 @@ pub fn tree_lines<'r>(
 
 /// What begins behind a line that leaves the innermost list and all below it as they are, as most lines do.
 #[inline(always)]
-fn start_behind(opened: Open, formed: Form) -> Option<Start>
-    ensures { IfSome result (λ s. LeavesOpen opened formed.next s) }
+fn start_behind(opened: Open, form: Form) -> Option<Start>
+    ensures { IfSome result (λ s. LeavesOpen opened form.next s) }
 {
-    match formed.next {
+    match form.next {
         Next::Ends => {
             if opened.block {
                 Some(Start::Fresh)
@@ -354,7 +354,7 @@ fn turn(
     from: Place,
 ) -> Result<Place, NoMemory>
     requires colons { AreCaseColons colons.now tokens.now }
-    requires small { length tokens.now < 2 ^ 30 }
+    requires few { length tokens.now < 2 ^ 30 }
     requires stands { Stands braces.now tokens.now out.old (opened ∷ reverse stack.old.items) from.start from.at }
     ensures stands { IfOk result
         (λ p. Stands braces.now tokens.now out.new (reverse stack.new.items) p.start p.at) }
@@ -366,14 +366,14 @@ fn turn(
     let mut place = from;
     while place.at < list_end {
         let Some(end) = simple_end(tokens, opened, place.start, place.at) else {
-            let formed = form_of(braces, tokens, colons, opened, place.start, place.at);
-            let Some(start) = start_behind(opened, formed) else {
-                return take_line(braces, tokens, out, stack, opened, place, formed);
+            let form = form_of(braces, tokens, colons, opened, place.start, place.at);
+            let Some(start) = start_behind(opened, form) else {
+                return take_line(braces, tokens, out, stack, opened, place, form);
             };
-            out.push(line_of(opened, place.start, place.at, formed))?;
+            out.push(line_of(opened, place.start, place.at, form))?;
             place = Place {
                 start,
-                at: formed.end,
+                at: form.end,
             };
             continue;
         };

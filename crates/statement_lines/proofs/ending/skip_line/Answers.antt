@@ -17,14 +17,14 @@ returns-in-Opens-clause-leads c =
 
 pub go_behind-requires-clause-end : goal.go_behind-requires-clause-end
 go_behind-requires-clause-end c =
-    place_small _ _ _ (ends_low c.args.place.at c.args.opened c.args.formed _ refl c.requires.stays) (whole_within _ _ _ _ _ _ c.requires.leads) c.requires.small
+    place_small _ _ _ (ends_low c.args.place.at c.args.opened c.args.form _ refl c.requires.stays) (whole_within _ _ _ _ _ _ c.requires.leads) c.requires.few
 
 pub go_behind-requires-clause-level : goal.go_behind-requires-clause-level
-go_behind-requires-clause-level c = level_small _ _ _ _ c.requires.level c.requires.here (whole_within _ _ _ _ _ _ c.requires.leads) c.requires.small
+go_behind-requires-clause-level c = level_small _ _ _ _ c.requires.level c.requires.here (whole_within _ _ _ _ _ _ c.requires.leads) c.requires.few
 
 pub returns-clause-leads : goal.returns-clause-leads
 returns-clause-leads c =
-    let f = c.args.formed in
+    let f = c.args.form in
     let lists = reverse c.go_behind.new.stack.items in
     IfOk-weaker c.go_behind.result
     (λ p. GoesBehind c.args.tokens.now c.args.opened f (reverse c.push_open-2.new.stack.items) lists p.start p.at f.next × (length c.go_behind.new.stack.items ≤ length c.push_open-2.new.stack.items + 1))
@@ -35,7 +35,7 @@ returns-clause-leads c =
 
 pub returns-clause-up : goal.returns-clause-up
 returns-clause-up c =
-    let f = c.args.formed in
+    let f = c.args.form in
     let lists = reverse c.go_behind.new.stack.items in
     IfOk-weaker c.go_behind.result
     (λ p. GoesBehind c.args.tokens.now c.args.opened f (reverse c.push_open-2.new.stack.items) lists p.start p.at f.next × (length c.go_behind.new.stack.items ≤ length c.push_open-2.new.stack.items + 1))

@@ -6,20 +6,20 @@ use Rattle.statement_lines.proofs.TurnLemmas.{taken, taken_up}
 use Rattle.statement_lines.proofs.tree.take_line.Goals as goal
 
 pub push_form-requires-clause-begins : goal.push_form-requires-clause-begins
-push_form-requires-clause-begins c = line_small _ _ _ c.requires.here c.requires.list c.requires.small
+push_form-requires-clause-begins c = line_small _ _ _ c.requires.here c.requires.list c.requires.few
 
 pub push_form-requires-clause-ends : goal.push_form-requires-clause-ends
-push_form-requires-clause-ends c = end_small _ _ _ (ends_low c.args.place.at c.args.opened c.args.formed _ refl c.requires.stays) c.requires.list c.requires.small
+push_form-requires-clause-ends c = end_small _ _ _ (ends_low c.args.place.at c.args.opened c.args.form _ refl c.requires.stays) c.requires.list c.requires.few
 
 pub go_behind-requires-clause-end : goal.go_behind-requires-clause-end
-go_behind-requires-clause-end c = place_small _ _ _ (ends_low c.args.place.at c.args.opened c.args.formed _ refl c.requires.stays) c.requires.list c.requires.small
+go_behind-requires-clause-end c = place_small _ _ _ (ends_low c.args.place.at c.args.opened c.args.form _ refl c.requires.stays) c.requires.list c.requires.few
 
 pub go_behind-requires-clause-level : goal.go_behind-requires-clause-level
-go_behind-requires-clause-level c = level_small _ _ _ _ c.requires.level c.requires.here c.requires.list c.requires.small
+go_behind-requires-clause-level c = level_small _ _ _ _ c.requires.level c.requires.here c.requires.list c.requires.few
 
 pub returns-clause-stands : goal.returns-clause-stands
 returns-clause-stands c =
-    let f = c.args.formed in
+    let f = c.args.form in
     let lists = reverse c.go_behind.new.stack.items in
     IfOk-weaker c.go_behind.result
     (λ p. GoesBehind c.args.tokens.now c.args.opened f (reverse c.push_open.new.stack.items) lists p.start p.at f.next × (length c.go_behind.new.stack.items ≤ length c.push_open.new.stack.items + 1))
@@ -31,7 +31,7 @@ returns-clause-stands c =
 
 pub returns-clause-up : goal.returns-clause-up
 returns-clause-up c =
-    let f = c.args.formed in
+    let f = c.args.form in
     let lists = reverse c.go_behind.new.stack.items in
     IfOk-weaker c.go_behind.result
     (λ p. GoesBehind c.args.tokens.now c.args.opened f (reverse c.push_open.new.stack.items) lists p.start p.at f.next × (length c.go_behind.new.stack.items ≤ length c.push_open.new.stack.items + 1))

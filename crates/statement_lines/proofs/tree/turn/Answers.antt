@@ -12,13 +12,13 @@ simple_end-requires-clause-list c = top_within _ _ _ _ _ _ _ c.loop-place.invari
 pub line_of-requires-in-loop-place-clause-begins : goal.line_of-requires-in-loop-place-clause-begins
 line_of-requires-in-loop-place-clause-begins c =
     let within : c.args.opened.end ≤ length c.args.tokens.now = top_within _ _ _ _ _ _ _ c.loop-place.invariant.stands in
-    omega (arith, within, c.requires.small, c.loop-place-test.true)
+    omega (arith, within, c.requires.few, c.loop-place-test.true)
 
 pub line_of-requires-in-loop-place-clause-ends : goal.line_of-requires-in-loop-place-clause-ends
 line_of-requires-in-loop-place-clause-ends c =
     let within : c.args.opened.end ≤ length c.args.tokens.now = top_within _ _ _ _ _ _ _ c.loop-place.invariant.stands in
     let end = ap (λ (f : Form). f.end) c.line_alone-form.ensures in
-    omega (arith, within, end, c.in-Some.ensures.most, c.requires.small)
+    omega (arith, within, end, c.in-Some.ensures.most, c.requires.few)
 
 pub loop-place-preserved : goal.loop-place-preserved
 loop-place-preserved c =
@@ -32,23 +32,23 @@ loop-place-preserved c =
 
 -- ## Any other line, and the end of the list
 
-pub form_of-formed-requires-clause-list : goal.form_of-formed-requires-clause-list
-form_of-formed-requires-clause-list c = top_within _ _ _ _ _ _ _ c.loop-place.invariant.stands
+pub form_of-form-requires-clause-list : goal.form_of-form-requires-clause-list
+form_of-form-requires-clause-list c = top_within _ _ _ _ _ _ _ c.loop-place.invariant.stands
 
-pub form_of-formed-requires-clause-low : goal.form_of-formed-requires-clause-low
-form_of-formed-requires-clause-low c = c.loop-place.invariant.stands.fits.1.0
+pub form_of-form-requires-clause-low : goal.form_of-form-requires-clause-low
+form_of-form-requires-clause-low c = c.loop-place.invariant.stands.fits.1.0
 
-pub form_of-formed-requires-clause-case_low : goal.form_of-formed-requires-clause-case_low
-form_of-formed-requires-clause-case_low c = c.loop-place.invariant.stands.fits.1.1.0
+pub form_of-form-requires-clause-case_low : goal.form_of-form-requires-clause-case_low
+form_of-form-requires-clause-case_low c = c.loop-place.invariant.stands.fits.1.1.0
 
-pub form_of-formed-requires-clause-start_low : goal.form_of-formed-requires-clause-start_low
-form_of-formed-requires-clause-start_low c = c.loop-place.invariant.stands.low
+pub form_of-form-requires-clause-start_low : goal.form_of-form-requires-clause-start_low
+form_of-form-requires-clause-start_low c = c.loop-place.invariant.stands.low
 
 pub take_line-requires-clause-stands : goal.take_line-requires-clause-stands
 take_line-requires-clause-stands c = c.loop-place.invariant.stands
 
 pub take_line-requires-clause-form : goal.take_line-requires-clause-form
-take_line-requires-clause-form c = sym c.form_of-formed.ensures.same
+take_line-requires-clause-form c = sym c.form_of-form.ensures.same
 
 pub take_line-requires-clause-list : goal.take_line-requires-clause-list
 take_line-requires-clause-list c = top_within _ _ _ _ _ _ _ c.loop-place.invariant.stands
@@ -56,22 +56,22 @@ take_line-requires-clause-list c = top_within _ _ _ _ _ _ _ c.loop-place.invaria
 pub line_of-requires-clause-begins : goal.line_of-requires-clause-begins
 line_of-requires-clause-begins c =
     let within : c.args.opened.end ≤ length c.args.tokens.now = top_within _ _ _ _ _ _ _ c.loop-place.invariant.stands in
-    omega (arith, within, c.requires.small, c.loop-place-test.true)
+    omega (arith, within, c.requires.few, c.loop-place-test.true)
 
 pub line_of-requires-clause-ends : goal.line_of-requires-clause-ends
 line_of-requires-clause-ends c =
-    let f = c.form_of-formed.result in
+    let f = c.form_of-form.result in
     let within : c.args.opened.end ≤ length c.args.tokens.now = top_within _ _ _ _ _ _ _ c.loop-place.invariant.stands in
-    let low : f.end ≤ c.args.opened.end = ends_low c.loop-place.place.at c.args.opened f f.next refl c.form_of-formed.ensures.stays in
-    omega (arith, within, low, c.requires.small)
+    let low : f.end ≤ c.args.opened.end = ends_low c.loop-place.place.at c.args.opened f f.next refl c.form_of-form.ensures.stays in
+    omega (arith, within, low, c.requires.few)
 
 pub loop-place-preserved-in_default : goal.loop-place-preserved-in_default
 loop-place-preserved-in_default c =
-    let f = c.form_of-formed.result in
-    let up : c.loop-place.place.at < f.end = stays_up c.loop-place.place.at c.args.opened f f.next c.in-Some-start_behind.start refl c.form_of-formed.ensures.stays c.in-Some-start_behind.ensures in
+    let f = c.form_of-form.result in
+    let up : c.loop-place.place.at < f.end = stays_up c.loop-place.place.at c.args.opened f f.next c.in-Some-start_behind.start refl c.form_of-form.ensures.stays c.in-Some-start_behind.ensures in
     record {
       stands =
-          stays_turn _ _ _ _ _ _ _ _ _ _ f f.next c.loop-place.invariant.stands c.loop-place-test.true (sym c.form_of-formed.ensures.same) refl c.form_of-formed.ensures.stays c.in-Some-start_behind.ensures c.line_of.ensures
+          stays_turn _ _ _ _ _ _ _ _ _ _ f f.next c.loop-place.invariant.stands c.loop-place-test.true (sym c.form_of-form.ensures.same) refl c.form_of-form.ensures.stays c.in-Some-start_behind.ensures c.line_of.ensures
           c.in_ok-push.ensures;
       same = c.loop-place.invariant.same;
       up = omega (arith, c.loop-place.invariant.up, up);
