@@ -7,13 +7,8 @@ use Rattle.std.proofs.lemmas.Bool.{cases_Bool}
 use Rattle.token_classes.specs.Classes.{is_question, is_colon, is_opener}
 use Rattle.statement_lines.specs.declared.token.CodeToken.{CodeToken}
 use Rattle.statement_lines.specs.Forms.{case_colon, step_over, class_at, within, behind_partner, partner_in, partner_of}
+use Rattle.statement_lines.proofs.Known.{lt_false, lt_true}
 use Rattle.statement_lines.proofs.ScanLemmas.{colon_at_end}
-
-lt_true : (a b : ℕ) → a < b → nat_lt a b ≡ true
-lt_true a b h = grind arith
-
-lt_false : (a b : ℕ) → b ≤ a → nat_lt a b ≡ false
-lt_false a b h = grind arith
 
 -- ## One step
 
@@ -185,10 +180,10 @@ behind_end tokens n c asked h = rw (lt_false c n h, behind_colon) refl
 behind_low : (k : ℕ) (tokens : List CodeToken) (n c asked : ℕ) → c < n → n - (c + 1) ≤ k → behind_colon tokens n c asked ≡ case_colon k tokens n (c + 1) asked
 behind_low k tokens n c asked lt nk = rw (lt_true c n lt, behind_colon) (enough (n - (c + 1)) k tokens n (c + 1) asked (omega arith) nk (omega arith))
 
-pub one_more : (k : ℕ) (tokens : List CodeToken) (n i asked : ℕ) → n - i ≤ k → i ≤ n
+pub one_question_more : (k : ℕ) (tokens : List CodeToken) (n i asked : ℕ) → n - i ≤ k → i ≤ n
     → case_colon k tokens n i (asked + 1) ≡ behind_colon tokens n (case_colon k tokens n i 0) asked
-one_more zero tokens n i asked nk h = sym (behind_end tokens n n asked (omega arith))
-one_more (suc k) tokens n i asked nk h = elim (cases_Bool (nat_lt i n)) [
+one_question_more zero tokens n i asked nk h = sym (behind_end tokens n n asked (omega arith))
+one_question_more (suc k) tokens n i asked nk h = elim (cases_Bool (nat_lt i n)) [
   | inr past ↦ let e : n ≤ i = not_below i n past in
       colon_at_end (suc k) tokens n i (asked + 1) e ∙ sym (ap (λ c. behind_colon tokens n c asked) (colon_at_end (suc k) tokens n i 0 e) ∙ behind_end tokens n n asked (omega arith))
   | inl before ↦
@@ -199,14 +194,14 @@ one_more (suc k) tokens n i asked nk h = elim (cases_Bool (nat_lt i n)) [
             let f = found k tokens n (i + 1) 0 (omega arith) in
             let up : i + 1 ≤ c1 = f.least in
             let left : case_colon (suc k) tokens n i (asked + 1) ≡ behind_colon tokens n c1 (asked + 1) =
-            at_question k tokens n i (asked + 1) lt q ∙ one_more k tokens n (i + 1) (asked + 1) (omega arith) (omega arith) in
+            at_question k tokens n i (asked + 1) lt q ∙ one_question_more k tokens n (i + 1) (asked + 1) (omega arith) (omega arith) in
             let right : case_colon (suc k) tokens n i 0 ≡ behind_colon tokens n c1 0 =
-            at_question k tokens n i 0 lt q ∙ one_more k tokens n (i + 1) 0 (omega arith) (omega arith) in
+            at_question k tokens n i 0 lt q ∙ one_question_more k tokens n (i + 1) 0 (omega arith) (omega arith) in
             left ∙ elim (cases_Bool (nat_lt c1 n)) [
               | inr far ↦ let high : n ≤ c1 = not_below c1 n far in
                   behind_end tokens n c1 (asked + 1) high ∙ sym (ap (λ c. behind_colon tokens n c asked) (behind_end tokens n c1 0 high) ∙ behind_end tokens n n asked (omega arith))
               | inl near ↦ let low : c1 < n = below c1 n near in
-                  behind_low k tokens n c1 (asked + 1) low (omega arith) ∙ one_more k tokens n (c1 + 1) asked (omega arith) (omega arith)
+                  behind_low k tokens n c1 (asked + 1) low (omega arith) ∙ one_question_more k tokens n (c1 + 1) asked (omega arith) (omega arith)
                   ∙ ap (λ c. behind_colon tokens n c asked) (sym (behind_low k tokens n c1 0 low (omega arith)))
             ] ∙ ap (λ c. behind_colon tokens n c asked) (sym right)
         | inr q ↦ elim (cases_Bool (is_colon (class_at tokens i))) [
@@ -217,7 +212,7 @@ one_more (suc k) tokens n i asked nk h = elim (cases_Bool (nat_lt i n)) [
           | inr c ↦
               let up = step_up tokens n i lt in
               let a : i < step_over tokens n i = up.least in
-              at_other k tokens n i (asked + 1) lt q c ∙ one_more k tokens n (step_over tokens n i) asked (omega arith) up.most
+              at_other k tokens n i (asked + 1) lt q c ∙ one_question_more k tokens n (step_over tokens n i) asked (omega arith) up.most
               ∙ ap (λ j. behind_colon tokens n j asked) (sym (at_other k tokens n i 0 lt q c))
         ]
       ]
@@ -246,7 +241,7 @@ question_at tokens colons place h lt q =
     let more : n - place ≡ suc k = omega arith in
     ap (λ m. case_colon m tokens n place 0) more
     ∙ at_question k tokens n place 0 lt q
-    ∙ one_more k tokens n (place + 1) 0 (omega arith) (omega arith)
+    ∙ one_question_more k tokens n (place + 1) 0 (omega arith) (omega arith)
     ∙ ap (λ c. behind_colon tokens n c 0) (sym (h.colon (place + 1) (omega arith) (omega arith)))
 
 pub question_near : (tokens : List CodeToken) (colons : List ℕ) (place : ℕ) → AreColonsFrom (place + 1) colons tokens → place < length tokens → is_question (class_at tokens place) ≡ true
@@ -296,12 +291,6 @@ scan_answer tokens end i asked lt q c some =
     let more : end - i ≡ suc (end - (i + 1)) = omega arith in
     sym (ap (λ m. case_colon m tokens end i asked) more ∙ at_answer (end - (i + 1)) tokens end i asked lt q c some)
 
-pub scan_here : (tokens : List CodeToken) (end i : ℕ) → i < end → is_question (class_at tokens i) ≡ false → is_colon (class_at tokens i) ≡ true
-    → i ≡ case_colon (end - i) tokens end i 0
-scan_here tokens end i lt q c =
-    let more : end - i ≡ suc (end - (i + 1)) = omega arith in
-    sym (ap (λ m. case_colon m tokens end i 0) more ∙ at_colon (end - (i + 1)) tokens end i lt q c)
-
 pub scan_other : (tokens : List CodeToken) (end i j asked : ℕ) → i < end → is_question (class_at tokens i) ≡ false → is_colon (class_at tokens i) ≡ false → j ≡ step_over tokens end i
     → case_colon (end - j) tokens end j asked ≡ case_colon (end - i) tokens end i asked
 scan_other tokens end i j asked lt q c e =
@@ -314,6 +303,3 @@ scan_other tokens end i j asked lt q c e =
     ∙ sym (ap (λ m. case_colon m tokens end i asked) more
     ∙ at_other (end - (i + 1)) tokens end i asked lt q c
     ∙ enough (end - (i + 1)) (end - s) tokens end s asked (omega arith) (omega arith) most)
-
-pub scan_end : (tokens : List CodeToken) (end i asked : ℕ) → end ≤ i → end ≡ case_colon (end - i) tokens end i asked
-scan_end tokens end i asked h = sym (colon_at_end (end - i) tokens end i asked h)

@@ -15,7 +15,8 @@ use Rattle.statement_lines.specs.Forms.{IsLow, StaysIn, form_of, seen, tail_end,
 use Rattle.statement_lines.specs.Tree.{end_level_from, end_level, level_of_list, settled, Reading, body_of, whole_file}
 use Rattle.statement_lines.specs.Stack.{OpenToEnd, LeadsToEnd, GoesBehind}
 use Rattle.statement_lines.proofs.Lists.{reverse_snoc}
-use Rattle.statement_lines.proofs.StackLemmas.{choice_keeps, settled_low, lt_true}
+use Rattle.statement_lines.proofs.StackLemmas.{choice_keeps, settled_low}
+use Rattle.statement_lines.proofs.Known.{lt_false, lt_true}
 use Rattle.statement_lines.proofs.TurnLemmas.{stays_at, low_up}
 
 -- ## Lists that are open to the end
@@ -34,9 +35,6 @@ settled_open tokens i whole at (o ∷ os) h =
     ] h
 
 -- ## One line
-
-lt_false : (a b : ℕ) → b ≤ a → nat_lt a b ≡ false
-lt_false a b h = grind arith
 
 pub end_here : (n : ℕ) (braces : Braces) (tokens : List CodeToken) (os : List Open) (o : Open) (start : Start) (at : ℕ)
     → 0 < n → o.end ≤ at → end_level_from n braces tokens (o ∷ os) start at ≡ level_of_list (o ∷ os)
@@ -96,9 +94,9 @@ move_stack braces tokens os os' start at e h = let P : List Open → Type 0 = λ
 move_reading : (braces : Braces) (tokens : List CodeToken) (r r' : Reading) (at : ℕ) → r ≡ r' → LeadsToEnd braces tokens r.opens r.start at → LeadsToEnd braces tokens r'.opens r'.start at
 move_reading braces tokens r r' at e h = let P : Reading → Type 0 = λ x. LeadsToEnd braces tokens x.opens x.start at in subst P e h
 
-moved_on : (braces : Braces) (tokens : List CodeToken) (os os' : List Open) (s s' : Start) (at at' : ℕ) → os' ≡ os → s' ≡ s → at' ≡ at
+leads_moved : (braces : Braces) (tokens : List CodeToken) (os os' : List Open) (s s' : Start) (at at' : ℕ) → os' ≡ os → s' ≡ s → at' ≡ at
     → LeadsToEnd braces tokens os s at → LeadsToEnd braces tokens os' s' at'
-moved_on braces tokens os os' s s' at at' es e ea h =
+leads_moved braces tokens os os' s s' at at' es e ea h =
     let P : ℕ → Type 0 = λ x. LeadsToEnd braces tokens os' s' x in
     let Q : Start → Type 0 = λ x. LeadsToEnd braces tokens os' x at in
     subst P (sym ea) (subst Q (sym e) (move_stack braces tokens os os' s at (sym es) h))
@@ -118,13 +116,13 @@ skipped braces tokens o stack0 stack1 stack2 start s2 at to f Ends s lt e q stay
     (λ n. end_ends n braces tokens (reverse stack0) o start at f (lt_true at o.end lt) e q)
     (settled_open tokens f.end (length tokens) f.end os (open_later (length tokens) at f.end os (omega (arith, up)) s.open_lists)) (settled_low tokens f.end f.end os) in
     let k = move_reading braces tokens (settled tokens f.end os) (record { opens = reverse stack2; start = s2 }) f.end (rw (reverse_snoc stack0 stack1 o es) at w.0) t in
-    moved_on braces tokens (reverse stack2) (reverse stack2) s2 s2 f.end to refl refl w.1 k
+    leads_moved braces tokens (reverse stack2) (reverse stack2) s2 s2 f.end to refl refl w.1 k
 skipped braces tokens o stack0 stack1 stack2 start s2 at to f (Goes g) s lt e q stay level other es w =
     let h = stays_at at o f (Goes g) q stay in
     let up : at < f.end = h.0 in
     let end : o.end ≡ length tokens = s.open_lists.0 in
     let os : List Open = o ∷ reverse stack0 in
-    moved_on braces tokens os (reverse stack2) g s2 f.end to (w.0 ∙ reverse_snoc stack0 stack1 o es) w.1.0 w.1.1
+    leads_moved braces tokens os (reverse stack2) g s2 f.end to (w.0 ∙ reverse_snoc stack0 stack1 o es) w.1.0 w.1.1
     (leads s.fuel at f.end braces tokens os os start g s.enough s.same up (omega (arith, lt, end))
     (λ n. end_goes n braces tokens (reverse stack0) o start at f g (lt_true at o.end lt) e q)
     (open_later (length tokens) at f.end os (omega (arith, up)) s.open_lists) (low_up at f.end g (omega (arith, up)) h.1.1))
@@ -133,7 +131,7 @@ skipped braces tokens o stack0 stack1 stack2 start s2 at to f (Waits k) s lt e q
     let up : at < f.end = h.0 in
     let end : o.end ≡ length tokens = s.open_lists.0 in
     let os : List Open = o ∷ reverse stack0 in
-    moved_on braces tokens (body_of o k f.level ∷ os) (reverse stack2) Fresh s2 f.end to (w.0 ∙ ap (λ os. body_of o k f.level ∷ os) (reverse_snoc stack0 stack1 o es)) w.1.0 w.1.1
+    leads_moved braces tokens (body_of o k f.level ∷ os) (reverse stack2) Fresh s2 f.end to (w.0 ∙ ap (λ os. body_of o k f.level ∷ os) (reverse_snoc stack0 stack1 o es)) w.1.0 w.1.1
     (leads s.fuel at f.end braces tokens os (body_of o k f.level ∷ os) start Fresh s.enough s.same up (omega (arith, lt, end))
     (λ n. end_waits n braces tokens (reverse stack0) o start at f k (lt_true at o.end lt) e q)
     (end, ((omega (arith, level, up)), ((omega (arith, level, up)), open_later (length tokens) at f.end os (omega (arith, up)) s.open_lists))) tt)

@@ -11,6 +11,7 @@ use Rattle.statement_lines.specs.declared.form.Next.TheVariants.{Ends}
 use Rattle.line_tokens.specs.declared.line.LineKind.{LineKind}
 use Rattle.line_tokens.specs.declared.line.LineKind.TheVariants.{Control}
 use Rattle.token_classes.specs.Classes.{is_open_brace}
+use Rattle.statement_lines.proofs.Known.{lt_false, lt_true}
 use Rattle.statement_lines.specs.Forms.{class_at, form_of, statement, tail_end, StaysIn}
 
 -- a head whose brace stands behind the line's first token
@@ -28,12 +29,6 @@ pub alone_stays : (kind : LineKind) (level end at : ℕ) (o : Open) (f : Form) �
 alone_stays kind level end at o f e up within = let P : Form → Type 0 = λ x. StaysIn at o x x.next in subst P (sym e) (up, within)
 
 -- ## The cases of a start
-
-lt_true : (a b : ℕ) → a < b → nat_lt a b ≡ true
-lt_true a b h = grind arith
-
-lt_false : (a b : ℕ) → b ≤ a → nat_lt a b ≡ false
-lt_false a b h = grind arith
 
 pub tail_form : (braces : Braces) (tokens : List CodeToken) (o : Open) (start : Start) (at t : ℕ) (f : Form) → start ≡ Tail → t ≡ tail_end tokens o.end at → at < t
     → f ≡ record { kind = Control; level = o.level; end = t; next = Ends } → f ≡ form_of braces tokens o start at

@@ -12,10 +12,10 @@ told_more [] (l ∷ levels) row level e = absurd (omega (arith, e))
 told_more (r ∷ rows) [] row level e = absurd (omega (arith, e))
 told_more (r ∷ rows) (l ∷ levels) row level e = ap (λ (ls : List Line). line_told r l ∷ ls) (told_more rows levels row level (omega (arith, e)))
 
-pub told_count : (rows : List ULine) (levels : List ℕ) → length rows ≡ length levels → length (lines_told rows levels) ≡ length rows
-told_count [] levels e = refl
-told_count (r ∷ rows) [] e = absurd (omega (arith, e))
-told_count (r ∷ rows) (l ∷ levels) e = ap suc (told_count rows levels (omega (arith, e)))
+pub line_of_each_row : (rows : List ULine) (levels : List ℕ) → length rows ≡ length levels → length (lines_told rows levels) ≡ length rows
+line_of_each_row [] levels e = refl
+line_of_each_row (r ∷ rows) [] e = absurd (omega (arith, e))
+line_of_each_row (r ∷ rows) (l ∷ levels) e = ap suc (line_of_each_row rows levels (omega (arith, e)))
 
 pub told_at : (rows : List ULine) (levels : List ℕ) (n : ℕ) (row : ULine) (level : ℕ) → length rows ≡ length levels → n < length rows
     → row ≡ slice_index_or rows n row → level ≡ slice_index_or levels n level → Some (line_told row level) ≡ slice_get (lines_told rows levels) n

@@ -1,10 +1,17 @@
--- What the tests of a token's class tell.
-use Rattle.std.proofs.Common.{◌≡◌, ◌∙◌, ℕ, ◌+◌, ◌-◌, ◌<◌, ◌≤◌, Bool, ap, arith, sym}
+-- What tests tell.
+use Rattle.std.proofs.Common.{◌≡◌, ◌∙◌, ℕ, ◌+◌, ◌-◌, ◌<◌, ◌≤◌, nat_lt, Bool, true, false, ap, arith, sym}
 use Rattle.token_classes.specs.declared.class.TokenClass.{TokenClass}
 
 -- of the class that a lookup gave
 pub known : (f : TokenClass → Bool) (x y : TokenClass) (r b : Bool) → x ≡ y → r ≡ f x → r ≡ b → f y ≡ b
 known f x y r b e q h = ap f (sym e) ∙ (sym q ∙ h)
+
+-- of the order of two places
+pub lt_true : (a b : ℕ) → a < b → nat_lt a b ≡ true
+lt_true a b h = grind arith
+
+pub lt_false : (a b : ℕ) → b ≤ a → nat_lt a b ≡ false
+lt_false a b h = grind arith
 
 -- ## One place further
 

@@ -6,9 +6,7 @@ use Rattle.statement_lines.specs.declared.form.Stop.{Stop}
 use Rattle.statement_lines.specs.Forms.{statement_stop, case_colon, tag_before, class_at, opens_block, step_over}
 use Rattle.statement_lines.specs.Forms.{assigns, behind_partner, is_member_word, call_opener, opens_list, partner_in}
 use Rattle.token_classes.specs.Classes.{is_assigning, is_open_brace, is_opener, is_semicolon, is_word}
-
-lt_true : (a b : ℕ) → a < b → nat_lt a b ≡ true
-lt_true a b h = grind arith
+use Rattle.statement_lines.proofs.Known.{lt_true}
 
 pub stop_at_end : (n : ℕ) (tokens : List CodeToken) (end i : ℕ) (assigned : Bool) → end ≤ i → statement_stop n tokens end i assigned ≡ record { at = end; opens = false; assigned = assigned }
 stop_at_end zero tokens end i assigned h = refl

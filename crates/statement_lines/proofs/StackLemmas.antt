@@ -15,6 +15,7 @@ use Rattle.token_classes.specs.Classes.{is_else}
 use Rattle.statement_lines.specs.Forms.{IsLow, StaysIn, form_of, seen, tail_end, is_if_head, is_do_head}
 use Rattle.statement_lines.specs.Tree.{lines_from, lines_of, settled, Reading, line_of, head_lines, body_of, whole_file}
 use Rattle.statement_lines.specs.Stack.{IsCut, current, left, Left, Rest, Reads, IsMore, Fits, Stands}
+use Rattle.statement_lines.proofs.Known.{lt_true}
 
 -- ## Cuts
 
@@ -86,9 +87,6 @@ settled_fits tokens i whole at e (o ∷ os) f =
 lines_from_nil : (n : ℕ) (braces : Braces) (tokens : List CodeToken) (start : Start) (at : ℕ) → [] ≡ lines_from n braces tokens [] start at ++ []
 lines_from_nil zero braces tokens start at = refl
 lines_from_nil (suc n) braces tokens start at = refl
-
-pub lt_true : (a b : ℕ) → a < b → nat_lt a b ≡ true
-lt_true a b h = grind arith
 
 pub from_end : (n : ℕ) (braces : Braces) (tokens : List CodeToken) (os : List Open) (o : Open) (start : Start) (at : ℕ)
     → o.end ≤ at → lines_from n braces tokens (o ∷ os) start at ≡ []

@@ -22,9 +22,9 @@ told_some f k (c ∷ cs) (suc i) d h = let e : k + 1 + i ≡ k + suc i = omega a
 pub first_some : (f : ℕ → TokenClass → CodeToken) (cs : List TokenClass) (i : ℕ) (d : TokenClass) → i < length cs → slice_get (tokens_from f 0 cs) i ≡ Some (f i (get_or cs i d))
 first_some f cs i d h = let e : 0 + i ≡ i = omega arith in told_some f 0 cs i d h ∙ ap (λ n. Some (f n (get_or cs i d))) e
 
-pub told_count : (f : ℕ → TokenClass → CodeToken) (k : ℕ) (cs : List TokenClass) → length (tokens_from f k cs) ≡ length cs
-told_count f k [] = refl
-told_count f k (c ∷ cs) = ap suc (told_count f (k + 1) cs)
+pub token_of_each_class : (f : ℕ → TokenClass → CodeToken) (k : ℕ) (cs : List TokenClass) → length (tokens_from f k cs) ≡ length cs
+token_of_each_class f k [] = refl
+token_of_each_class f k (c ∷ cs) = ap suc (token_of_each_class f (k + 1) cs)
 
 pub told_class : (f : ℕ → TokenClass → CodeToken) (k : ℕ) (cs : List TokenClass) (i : ℕ) → ((n : ℕ) → (c : TokenClass) → (f n c).class ≡ c) → class_of (slice_get (tokens_from f k cs) i) ≡ class_in (slice_get cs i)
 told_class f k [] i own = refl
@@ -49,10 +49,6 @@ place_behind (c ∷ cs) k (suc j) d low before behind =
     ap (λ (b : Bool). if b then place_of cs (k + 1) else k) yes
     ∙ place_behind cs (k + 1) j d (omega (arith, low)) (λ i h. let q : get_or cs i d ≤ k + suc i = before (suc i) (omega (arith, h)) in omega (arith, q)) (λ h. let q : k + suc j < get_or cs j d = behind (omega (arith, h)) in omega (arith, q))
     ∙ e
-
-ascend_less : (m k : ℕ) (cs : List ℕ) → m ≤ k → AscendFrom k cs → AscendFrom m cs
-ascend_less m k [] low h = tt
-ascend_less m k (c ∷ cs) low h = ((omega (arith, low, h.0)), h.1)
 
 -- each stands behind so many others
 pub ascend_low : (k : ℕ) (cs : List ℕ) (i d : ℕ) → AscendFrom k cs → i < length cs → k + i ≤ get_or cs i d

@@ -84,9 +84,9 @@ stays_up at o f (Opens w b) s2 q stay leaves = absurd leaves
 
 -- ## Any line
 
-moved_on : (braces : Braces) (tokens : List CodeToken) (out out' : List Line) (os os' : List Open) (s s' : Start) (at at' : ℕ)
+stands_moved : (braces : Braces) (tokens : List CodeToken) (out out' : List Line) (os os' : List Open) (s s' : Start) (at at' : ℕ)
     → out' ≡ out → os' ≡ os → s' ≡ s → at' ≡ at → Stands braces tokens out os s at → Stands braces tokens out' os' s' at'
-moved_on braces tokens out out' os os' s s' at at' eo es e ea h =
+stands_moved braces tokens out out' os os' s s' at at' eo es e ea h =
     let P : ℕ → Type 0 = λ x. Stands braces tokens out' os' s' x in
     let Q : Start → Type 0 = λ x. Stands braces tokens out' os' x at in
     subst P (sym ea) (subst Q (sym e) (put braces tokens out out' os os' s at (sym eo) (sym es) h))
@@ -100,19 +100,19 @@ taken braces tokens out0 out1 o stack0 stack1 stack2 start s2 at to f Ends s lt 
     let t = stands_ends braces tokens out0 o (reverse stack0) start at f s lt e q h.0 h.1 in
     let r : Reading = record { opens = reverse stack2; start = s2 } in
     let k = put_reading braces tokens (out0 ++ line_of o start at f ∷ []) (settled tokens f.end (o ∷ reverse stack0)) r f.end (rw (reverse_snoc stack0 stack1 o es) at w.0) t in
-    moved_on braces tokens (out0 ++ line_of o start at f ∷ []) out1 (reverse stack2) (reverse stack2) s2 s2 f.end to eo refl refl w.1 k
+    stands_moved braces tokens (out0 ++ line_of o start at f ∷ []) out1 (reverse stack2) (reverse stack2) s2 s2 f.end to eo refl refl w.1 k
 taken braces tokens out0 out1 o stack0 stack1 stack2 start s2 at to f (Goes g) s lt e q stay level eo es w =
     let h = stays_at at o f (Goes g) q stay in
     let t = stands_goes braces tokens out0 o (reverse stack0) start at f g s lt e q h.0 h.1.0 (low_up at f.end g (let z : at < f.end = h.0 in omega arith) h.1.1) in
-    moved_on braces tokens (out0 ++ line_of o start at f ∷ []) out1 (o ∷ reverse stack0) (reverse stack2) g s2 f.end to eo (w.0 ∙ reverse_snoc stack0 stack1 o es) w.1.0 w.1.1 t
+    stands_moved braces tokens (out0 ++ line_of o start at f ∷ []) out1 (o ∷ reverse stack0) (reverse stack2) g s2 f.end to eo (w.0 ∙ reverse_snoc stack0 stack1 o es) w.1.0 w.1.1 t
 taken braces tokens out0 out1 o stack0 stack1 stack2 start s2 at to f (Waits k) s lt e q stay level eo es w =
     let h = stays_at at o f (Waits k) q stay in
     let t = stands_waits braces tokens out0 o (reverse stack0) start at f k s lt e q h.0 h.1 level in
-    moved_on braces tokens (out0 ++ line_of o start at f ∷ []) out1 (body_of o k f.level ∷ o ∷ reverse stack0) (reverse stack2) Fresh s2 f.end to eo
+    stands_moved braces tokens (out0 ++ line_of o start at f ∷ []) out1 (body_of o k f.level ∷ o ∷ reverse stack0) (reverse stack2) Fresh s2 f.end to eo
     (w.0 ∙ ap (λ os. body_of o k f.level ∷ os) (reverse_snoc stack0 stack1 o es)) w.1.0 w.1.1 t
 taken braces tokens out0 out1 o stack0 stack1 stack2 start s2 at to f (Opens wrapped b) s lt e q stay level eo es w =
     let t = stands_opens braces tokens out0 o (reverse stack0) start at f wrapped b s lt e q (stays_at at o f (Opens wrapped b) q stay) level in
-    moved_on braces tokens (out0 ++ head_lines o start at f wrapped) out1 (b ∷ o ∷ reverse stack0) (reverse stack2) Fresh s2 (f.end + 1) to eo
+    stands_moved braces tokens (out0 ++ head_lines o start at f wrapped) out1 (b ∷ o ∷ reverse stack0) (reverse stack2) Fresh s2 (f.end + 1) to eo
     (w.0 ∙ ap (λ os. b ∷ os) (reverse_snoc stack0 stack1 o es)) w.1.0 w.1.1 t
 
 -- it ends behind its first place
@@ -127,8 +127,8 @@ taken_up tokens o f os opens s at to (Waits h) q stay w =
 taken_up tokens o f os opens s at to (Opens wrapped b) q stay w =
     let begins : at ≤ f.end = (stays_at at o f (Opens wrapped b) q stay).begins in let e : to ≡ f.end + 1 = w.1.1 in omega (arith, begins, e)
 
-pub one_more : {A : Type 0} (new : ℕ) (xs ys : List A) (x : A) → ys ≡ xs ++ x ∷ [] → new ≤ length ys + 1 → new ≤ length xs + 2
-one_more new xs ys x e h =
+pub at_most_two_more : {A : Type 0} (new : ℕ) (xs ys : List A) (x : A) → ys ≡ xs ++ x ∷ [] → new ≤ length ys + 1 → new ≤ length xs + 2
+at_most_two_more new xs ys x e h =
     let more : length ys ≡ length xs + 1 = ap length e ∙ length-append xs (x ∷ []) in
     omega (arith, more, h)
 

@@ -19,7 +19,8 @@ use Rattle.unwrapped_lines.specs.Viewed.{code_tokens}
 use Rattle.statement_lines.specs.Wrapping.{braces_of}
 use Rattle.line_tokens.specs.Lines.{CutPlaces}
 use Rattle.unwrapped_lines.specs.Lines.{unwrapped_lines_of}
-use Rattle.statement_lines.proofs.StackLemmas.{lt_true, from_end, from_ends, from_goes, from_waits, from_opens}
+use Rattle.statement_lines.proofs.Known.{lt_true}
+use Rattle.statement_lines.proofs.StackLemmas.{from_end, from_ends, from_goes, from_waits, from_opens}
 use Rattle.unwrapped_lines.proofs.CutLemmas.{Starts, cut_started}
 
 head_starts : (total : ℕ) (o : Open) (start : Start) (f : Form) (wrapped : Bool) (ls ms : List Line) → Starts total (head_lines o start 0 f wrapped ++ ls ++ ms)

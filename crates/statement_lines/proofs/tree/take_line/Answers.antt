@@ -1,7 +1,7 @@
 use Rattle.std.proofs.Common.{◌<◌, ◌≤◌, ◌+◌, length, refl, reverse}
 use Rattle.std.proofs.lemmas.Result.{IfOk-weaker}
 use Rattle.statement_lines.specs.Stack.{GoesBehind, Stands}
-use Rattle.statement_lines.proofs.TurnLemmas.{end_small, ends_low, level_small, line_small, one_more, place_small}
+use Rattle.statement_lines.proofs.TurnLemmas.{end_small, ends_low, level_small, line_small, at_most_two_more, place_small}
 use Rattle.statement_lines.proofs.TurnLemmas.{taken, taken_up}
 use Rattle.statement_lines.proofs.tree.take_line.Goals as goal
 
@@ -36,5 +36,5 @@ returns-clause-up c =
     IfOk-weaker c.go_behind.result
     (λ p. GoesBehind c.args.tokens.now c.args.opened f (reverse c.push_open.new.stack.items) lists p.start p.at f.next × (length c.go_behind.new.stack.items ≤ length c.push_open.new.stack.items + 1))
     (λ p. (c.args.place.at < p.at) × (length c.go_behind.new.stack.items ≤ length c.args.stack.now.items + 2))
-    (λ p w. (taken_up c.args.tokens.now c.args.opened f (reverse c.push_open.new.stack.items) lists p.start c.args.place.at p.at f.next refl c.requires.stays w.0, one_more (length c.go_behind.new.stack.items) c.args.stack.now.items c.push_open.new.stack.items c.args.opened c.in_ok-push_open.ensures.items w.1))
+    (λ p w. (taken_up c.args.tokens.now c.args.opened f (reverse c.push_open.new.stack.items) lists p.start c.args.place.at p.at f.next refl c.requires.stays w.0, at_most_two_more (length c.go_behind.new.stack.items) c.args.stack.now.items c.push_open.new.stack.items c.args.opened c.in_ok-push_open.ensures.items w.1))
     c.go_behind.ensures

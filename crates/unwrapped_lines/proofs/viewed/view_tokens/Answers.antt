@@ -2,7 +2,7 @@ use Rattle.std.proofs.Common.{◌≡◌, ◌∙◌, ℕ, List, [], ◌∷◌, Bo
 use Rattle.token_classes.specs.declared.class.TokenClass.{TokenClass}
 use Rattle.statement_lines.specs.declared.token.CodeToken.{CodeToken}
 use Rattle.statement_lines.specs.Tokens.{ArePlaced, token_told, tokens_from}
-use Rattle.statement_lines.proofs.TokenLemmas.{told_count}
+use Rattle.statement_lines.proofs.TokenLemmas.{token_of_each_class}
 use Rattle.unwrapped_lines.specs.Viewed.{numbers_of}
 use Rattle.unwrapped_lines.specs.Inside.{AreTouched, code_classes, code_partners, comment_places_from, comments_of, parts_with}
 use Rattle.unwrapped_lines.proofs.CommentParts.{parts_same}
@@ -33,7 +33,7 @@ returns-then-is_empty-clause-tokens c =
 
 pub returns-then-is_empty-clause-few : goal.returns-then-is_empty-clause-few
 returns-then-is_empty-clause-few c =
-    let same : length c.of-tokens.result ≡ length c.args.classes.now = ap (λ (ts : List CodeToken). length ts) c.of-tokens.ensures ∙ told_count _ 0 c.args.classes.now in
+    let same : length c.of-tokens.result ≡ length c.args.classes.now = ap (λ (ts : List CodeToken). length ts) c.of-tokens.ensures ∙ token_of_each_class _ 0 c.args.classes.now in
     omega (arith, same, c.requires.few)
 
 pub returns-then-is_empty-clause-parts : goal.returns-then-is_empty-clause-parts
@@ -89,7 +89,7 @@ pub returns-clause-few : goal.returns-clause-few
 returns-clause-few c =
     let some : nat_eq (length c.args.read.now.marked.items) 0 ≡ false = ap (λ (ms : List ℕ). nat_eq (length ms) 0) (sym c.as_slice-marked.ensures.value) ∙ (sym c.is_empty.ensures ∙ c.if-is_empty.false) in
     let classes = c.args.classes.now in
-    let same : length c.of-tokens-2.result ≡ length c.as_slice-kept.result.now = ap (λ (ts : List CodeToken). length ts) c.of-tokens-2.ensures ∙ told_count _ 0 c.as_slice-kept.result.now in
+    let same : length c.of-tokens-2.result ≡ length c.as_slice-kept.result.now = ap (λ (ts : List CodeToken). length ts) c.of-tokens-2.ensures ∙ token_of_each_class _ 0 c.as_slice-kept.result.now in
     let kept : length c.as_slice-kept.result.now ≡ length (code_classes classes) = ap (λ (cs : List TokenClass). length cs) (c.as_slice-kept.ensures.value ∙ c.requires.joined.by_class some) in
     omega (arith, same, kept, both_counts 0 classes, c.requires.few)
 

@@ -3,14 +3,14 @@ use Rattle.std.specs.Prelude.{slice_get}
 use Rattle.std.proofs.lemmas.Option.{slice_get_past}
 use Rattle.statement_lines.specs.declared.line.Line.{Line}
 use Rattle.statement_lines.specs.Lines.{lines_told}
-use Rattle.statement_lines.proofs.KeptLines.{told_at, told_count}
+use Rattle.statement_lines.proofs.KeptLines.{told_at, line_of_each_row}
 use Rattle.statement_lines.proofs.lines.Lines.get.Goals as goal
 
 pub returns-then-len-number : goal.returns-then-len-number
 returns-then-len-number c =
     let rows = c.self.inside.rows.items in
     let levels = c.self.inside.levels.items in
-    let many : length (lines_told rows levels) ≡ length rows = told_count rows levels c.self.invariant.count in
+    let many : length (lines_told rows levels) ≡ length rows = line_of_each_row rows levels c.self.invariant.count in
     let past : length (lines_told rows levels) ≤ c.args.number = omega (arith, many, c.if-len-number.true, c.len.ensures, c.self.inside.rows.ok.0) in
     sym (slice_get_past (lines_told rows levels) c.args.number past) ∙ ap (λ (ls : List Line). slice_get ls c.args.number) c.self.view_is
 
