@@ -21,7 +21,7 @@ fn make_room<T: Copy>(items: &mut Vec<T, &Bump>) -> Result<(), NoMemory>
 
 /// Sees that there is room for one item more.
 #[inline(always)]
-fn reserve_room<T: Copy>(items: &mut Vec<T, &Bump>) -> Result<(), NoMemory>
+pub(crate) fn reserve_room<T: Copy>(items: &mut Vec<T, &Bump>) -> Result<(), NoMemory>
     ensures items { items.new.items ≡ items.old.items }
     ensures room { OnOk result (vec_len items.new < vec_capacity items.new) }
 {

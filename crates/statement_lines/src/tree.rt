@@ -12,7 +12,7 @@ use crate::braces::Braces;
 use crate::form::{Form, Next};
 use crate::forms::{form_of, line_alone, tail_end};
 use crate::line::Line;
-use crate::lines::Lines;
+use crate::lines::{Lines, reserve_room};
 use crate::lookups::seen;
 use crate::open::{Context, Head, Open, Start};
 use crate::simple::simple_end;
@@ -57,11 +57,8 @@ pub(crate) fn settle(tokens: &CodeTokens<'_>, stack: &mut Vec<Open, &Bump>, at: 
 pub(crate) fn push_open(stack: &mut Vec<Open, &Bump>, opened: Open) -> Result<(), NoMemory>
     ensures items { IfOk result (λ u. stack.new.items ≡ stack.old.items ++ opened ∷ []) }
 {
-    if stack.len() < stack.capacity() {
-        stack.push_reserved(opened);
-    } else {
-        stack.push(opened)?;
-    }
+    reserve_room(stack)?;
+    stack.push_reserved(opened);
     Ok(())
 }
 
