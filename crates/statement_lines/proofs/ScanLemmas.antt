@@ -1,5 +1,5 @@
 -- Scans past their end.
-use Rattle.std.proofs.Common.{◌≡◌, ℕ, zero, suc, ◌<◌, ◌≤◌, ◌+◌, ◌-◌, ◌&&◌, ◌||◌, not, nat_lt, Bool, true, false, List, refl, sym, ap, subst, arith}
+use Rattle.std.proofs.Common.{◌≡◌, ℕ, zero, suc, ◌<◌, ◌≤◌, ◌+◌, ◌-◌, ◌&&◌, ◌||◌, not, Bool, true, false, List, refl, sym, ap, subst, arith}
 use Rattle.token_classes.specs.declared.class.TokenClass.{TokenClass}
 use Rattle.statement_lines.specs.declared.token.CodeToken.{CodeToken}
 use Rattle.statement_lines.specs.declared.form.Stop.{Stop}
