@@ -24,27 +24,20 @@ use crate::{colons, scans};
 use line_tokens::LineKind;
 use token_classes::TokenClass;
 
-/// A block at the brace at `place`.
+/// A block of code at the brace at `place`, one level deeper than its head.
 #[inline(always)]
-fn block_at(
-    tokens: &CodeTokens<'_>,
-    end: u32,
-    place: usize,
-    context: Context,
-    head: Head,
-    head_level: u32,
-    level: u32,
-) -> Open
-    requires { place < end }
-    ensures same { result ≡ block_at tokens.now end place context head head_level level }
+fn code_block(tokens: &CodeTokens<'_>, end: u32, place: usize, head: Head, head_level: u32) -> Open
+    requires here { place < end }
+    requires low { head_level < 2 ^ 31 }
+    ensures same { result ≡ block_at tokens.now end place Code head head_level (head_level + 1) }
     ensures least { place < result.end }
     ensures most { result.end ≤ end }
 {
     Open {
         block: true,
-        context,
-        level,
-        case_level: level,
+        context: Context::Code,
+        level: head_level + 1,
+        case_level: head_level + 1,
         end: block_end(tokens, end as usize, place) as u32,
         head,
         head_level,
@@ -77,15 +70,7 @@ fn label_form(
         next: if seen(tokens, opened.end as usize, next).is_open_brace() {
             Next::Opens(
                 wrapped,
-                block_at(
-                    tokens,
-                    opened.end,
-                    next,
-                    Context::Code,
-                    Head::Plain,
-                    level,
-                    level + 1,
-                ),
+                code_block(tokens, opened.end, next, Head::Plain, level),
             )
         } else {
             Next::Ends
@@ -240,7 +225,7 @@ fn control_block(
             assigned: false,
         }
     } else {
-        block_at(tokens, end, place, Context::Code, head, level, level + 1)
+        code_block(tokens, end, place, head, level)
     }
 }
 
@@ -483,15 +468,7 @@ fn opens_code(
         end: brace,
         next: Next::Opens(
             wrapped,
-            block_at(
-                tokens,
-                opened.end,
-                brace,
-                Context::Code,
-                Head::Plain,
-                opened.level,
-                opened.level + 1,
-            ),
+            code_block(tokens, opened.end, brace, Head::Plain, opened.level),
         ),
     }
 }
@@ -517,15 +494,16 @@ fn extern_form(braces: &Braces, tokens: &CodeTokens<'_>, opened: Open, at: usize
         end: at + 2,
         next: Next::Opens(
             braces.after_extern,
-            block_at(
-                tokens,
-                opened.end,
-                at + 2,
-                Context::File,
-                Head::Plain,
-                opened.level,
-                opened.level,
-            ),
+            Open {
+                block: true,
+                context: Context::File,
+                level: opened.level,
+                case_level: opened.level,
+                end: block_end(tokens, opened.end as usize, at + 2) as u32,
+                head: Head::Plain,
+                head_level: opened.level,
+                assigned: false,
+            },
         ),
     }
 }
