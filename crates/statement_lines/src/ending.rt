@@ -33,7 +33,7 @@ fn skip_line(
     ensures leads { IfOk result (λ p. LeadsToEnd braces.now tokens.now (reverse stack.new.items) p.start p.at) }
     ensures up { IfOk result (λ p. length tokens.now - p.at < length tokens.now - place.at) }
 {
-    if let Next::Opens(_, block) = form.next {
+    if let Next::Opens { block, .. } = form.next {
         if block.end < opened.end {
             push_open(stack, opened)?;
             return Ok(Place {

@@ -12,8 +12,13 @@ pub enum Next {
     Goes(Start),
     /// It is a header that waits for its one statement.
     Waits(Head),
-    /// A block follows, whose `{` is a line of its own or not.
-    Opens(bool, Open),
+    /// A block follows.
+    Opens {
+        /// Its `{` is a line of its own.
+        wrapped: bool,
+        /// The block.
+        block: Open,
+    },
 }
 
 /// A line: where it ends, its block's `{` aside, and what it leaves open.

@@ -68,10 +68,10 @@ fn label_form(
         level,
         end: next,
         next: if seen(tokens, opened.end as usize, next).is_open_brace() {
-            Next::Opens(
+            Next::Opens {
                 wrapped,
-                code_block(tokens, opened.end, next, Head::Plain, level),
-            )
+                block: code_block(tokens, opened.end, next, Head::Plain, level),
+            }
         } else {
             Next::Ends
         },
@@ -274,10 +274,10 @@ fn control_form(
         level,
         end: behind,
         next: if seen(tokens, end, behind).is_open_brace() {
-            Next::Opens(
-                braces.after_control,
-                control_block(braces, tokens, opened.end, behind, head, level),
-            )
+            Next::Opens {
+                wrapped: braces.after_control,
+                block: control_block(braces, tokens, opened.end, behind, head, level),
+            }
         } else {
             Next::Waits(head)
         },
@@ -404,9 +404,9 @@ fn other_form(
             kind: kind_or_close(closes, tagged_kind(tag)),
             level,
             end: stop.at,
-            next: Next::Opens(
-                wraps_tagged(braces, tag),
-                Open {
+            next: Next::Opens {
+                wrapped: wraps_tagged(braces, tag),
+                block: Open {
                     block: true,
                     context: tagged_context(tag),
                     level: level + 1,
@@ -416,7 +416,7 @@ fn other_form(
                     head_level: level,
                     assigned: stop.assigned,
                 },
-            ),
+            },
         }
     } else {
         Form {
@@ -466,10 +466,10 @@ fn opens_code(
         kind,
         level: opened.level,
         end: brace,
-        next: Next::Opens(
+        next: Next::Opens {
             wrapped,
-            code_block(tokens, opened.end, brace, Head::Plain, opened.level),
-        ),
+            block: code_block(tokens, opened.end, brace, Head::Plain, opened.level),
+        },
     }
 }
 
@@ -492,9 +492,9 @@ fn extern_form(braces: &Braces, tokens: &CodeTokens<'_>, opened: Open, at: usize
         kind: LineKind::ExternHead,
         level: opened.level,
         end: at + 2,
-        next: Next::Opens(
-            braces.after_extern,
-            Open {
+        next: Next::Opens {
+            wrapped: braces.after_extern,
+            block: Open {
                 block: true,
                 context: Context::File,
                 level: opened.level,
@@ -504,7 +504,7 @@ fn extern_form(braces: &Braces, tokens: &CodeTokens<'_>, opened: Open, at: usize
                 head_level: opened.level,
                 assigned: false,
             },
-        ),
+        },
     }
 }
 

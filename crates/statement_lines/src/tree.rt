@@ -219,7 +219,7 @@ fn push_form(
     requires stays { StaysIn at opened form form.next }
     ensures { IfOk result (λ u. out.new ≡ out.old ++ form_lines opened start at form form.next) }
 {
-    if let Next::Opens(wrapped, _) = form.next {
+    if let Next::Opens { wrapped, .. } = form.next {
         push_head(out, opened, start, at, form, wrapped)
     } else {
         out.push(line_of(opened, start, at, form))
@@ -248,7 +248,7 @@ pub(crate) fn go_behind(
             push_open(stack, body_of(opened, head, form.level))?;
             Start::Fresh
         }
-        Next::Opens(_, block) => {
+        Next::Opens { block, .. } => {
             push_open(stack, block)?;
             return Ok(Place {
                 start: Start::Fresh,
@@ -334,7 +334,7 @@ fn start_behind(opened: Open, form: Form) -> Option<Start>
             }
         }
         Next::Goes(start) => Some(start),
-        Next::Waits(_) | Next::Opens(_, _) => None,
+        Next::Waits(_) | Next::Opens { .. } => None,
     }
 }
 
