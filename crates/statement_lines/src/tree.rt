@@ -1,8 +1,11 @@
 //! The lines of tokens, with a stack of open lists.
 
 ghost use Rattle.std.specs.Prelude.{◌≡◌, ◌<◌, ◌≤◌, ◌+◌, ◌-◌, ◌*◌, ◌^◌, ◌∷◌, [], ◌++◌, reverse, length, Some, None};
-ghost use Rattle.std.specs.Prelude.{IfSome, IfNone, IfOk, IsTrue};
+ghost use Rattle.std.specs.Prelude.{IfSome, IfNone, IfOk, IsTrue, List};
+ghost use Rattle.statement_lines.specs.declared.braces.Braces.{Braces};
+ghost use Rattle.statement_lines.specs.declared.line.Line.{Line};
 ghost use Rattle.statement_lines.specs.declared.open.Start.TheVariants.{Fresh};
+ghost use Rattle.statement_lines.specs.declared.token.CodeToken.{CodeToken};
 ghost use Rattle.statement_lines.specs.Forms.{StaysIn, form_of};
 ghost use Rattle.statement_lines.specs.Tree.{settled, lines_of, whole_file, body_of, line_of, head_lines};
 ghost use Rattle.statement_lines.specs.Colons.{AreCaseColons};
@@ -68,6 +71,7 @@ fn leave(stack: &mut Vec<Open, &Bump>) -> Option<Open>
         (λ b. left (reverse stack.old.items) ≡ Some (record { block = b; below = reverse stack.new.items })) }
     ensures none { IfNone result (left (reverse stack.old.items) ≡ None) }
     ensures fewer { IfSome result (λ b. length stack.new.items < length stack.old.items) }
+    ensures most { length stack.new.items ≤ length stack.old.items }
 {
     while let Some(innermost) = stack.pop() {
         if innermost.block {
@@ -176,19 +180,15 @@ pub(crate) fn whole_file(tokens: &CodeTokens<'_>) -> Open
 
 /// Leaves a list that has ended.
 #[inline(always)]
-fn leave_list(
-    braces: &Braces,
-    tokens: &CodeTokens<'_>,
-    out: &Lines<'_>,
-    stack: &mut Vec<Open, &Bump>,
-    opened: Open,
-    place: Place,
-) -> Place
-    requires stands { Stands braces.now tokens.now out.now (opened ∷ reverse stack.old.items) place.start place.at }
+fn leave_list(stack: &mut Vec<Open, &Bump>, opened: Open, place: Place) -> Place
     requires ended { opened.end ≤ place.at }
-    ensures stands { Stands braces.now tokens.now out.now (reverse stack.new.items) result.start result.at }
+    ensures stands { (braces : Braces) (tokens : List CodeToken) (out : List Line)
+        → Stands braces tokens out (opened ∷ reverse stack.old.items) place.start place.at
+        → Stands braces tokens out (reverse stack.new.items) result.start result.at }
     ensures fewer { length stack.new.items ≤ length stack.old.items }
-    ensures stays { result.at ≡ place.at }
+    ensures stays { (braces : Braces) (tokens : List CodeToken) (out : List Line)
+        → Stands braces tokens out (opened ∷ reverse stack.old.items) place.start place.at
+        → result.at ≡ place.at }
 {
     if opened.block {
         return Place {
@@ -381,5 +381,5 @@ fn turn(
             at: end,
         };
     }
-    Ok(leave_list(braces, tokens, out, stack, opened, place))
+    Ok(leave_list(stack, opened, place))
 }

@@ -84,5 +84,10 @@ pub returns-in_default-start_behind-clause-up : goal.returns-in_default-start_be
 returns-in_default-start_behind-clause-up c =
     turned c.take_line.result _ _ _ _ _ _ _ c.loop-place.invariant.up (ap length c.loop-place.invariant.same) c.loop-place-test.true (top_within _ _ _ _ _ _ _ c.loop-place.invariant.stands) c.take_line.ensures.up
 
+pub returns-clause-stands : goal.returns-clause-stands
+returns-clause-stands c = c.leave_list.ensures.stands c.args.braces.now c.args.tokens.now c.loop-place.out c.loop-place.invariant.stands
+
 pub returns-clause-up : goal.returns-clause-up
-returns-clause-up c = omega (arith, c.loop-place.invariant.up, ap length c.loop-place.invariant.same, c.leave_list.ensures.fewer, c.leave_list.ensures.stays)
+returns-clause-up c =
+    let stays = c.leave_list.ensures.stays c.args.braces.now c.args.tokens.now c.loop-place.out c.loop-place.invariant.stands in
+    omega (arith, c.loop-place.invariant.up, ap length c.loop-place.invariant.same, c.leave_list.ensures.fewer, stays)
