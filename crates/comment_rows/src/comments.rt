@@ -8,10 +8,10 @@ ghost use Rattle.line_tokens.specs.declared.LineTok.{LineTok};
 ghost use Rattle.line_tokens.specs.Roles.{is_trailing};
 ghost use Rattle.line_tokens.specs.Tokens.{no_token};
 ghost use Rattle.replacements.specs.Decisions.{decided, decided_all, slot_of};
-ghost use Rattle.comment_rows.specs.Comments.{column_behind, comment_of, comments_in, comments_made, is_next};
-ghost use Rattle.comment_rows.specs.Comments.{placed, placed_slot, row_of};
+ghost use Rattle.comment_rows.specs.Comments.{column_behind, comment_of, comments_in, comments_made, is_next, placed};
+ghost use Rattle.comment_rows.specs.Comments.{placed_slot, row_of};
 
-use crate::rows::{end_of, first_start, is_next, start_by};
+use crate::rows::{first_start, is_next, start_by};
 use crate::trailing::next_trailing;
 use crate::{TrailRow, align};
 use bumpalo::Bump;
@@ -118,7 +118,7 @@ fn walk_to(
         let left = token_at(tokens, at);
         let token = token_at(tokens, at + 1);
         let start = start_by(style, left, column, token, plan.slot(token.id.0));
-        column = end_of(token, start);
+        column = token.end_of(start);
     }
     Ok(column)
 }
@@ -142,7 +142,7 @@ fn column_behind(
     ensures { IfOk result (λ column. column ≡ column_behind style.now plan.now toks.now place) }
 {
     match plan.slot(token.id.0) {
-        Some(slot) => Ok(end_of(token, slot.end)),
+        Some(slot) => Ok(token.end_of(slot.end)),
         None => walk_to(style, plan, toks, known, place, run),
     }
 }
@@ -198,7 +198,7 @@ fn comments_in<'r>(
     let first = toks.at(0);
     let mut known = Behind {
         place: 0,
-        column: end_of(&first, first_start(plan.slot(first.id.0))),
+        column: first.end_of(first_start(plan.slot(first.id.0))),
     };
     let mut segment = 0;
     let mut at = next_trailing(toks, 1);

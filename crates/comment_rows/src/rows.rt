@@ -2,8 +2,6 @@
 
 ghost use Rattle.std.specs.Prelude.{◌≡◌, ◌<◌, ◌≤◌, ◌++◌, All, IfNone, IfSome, List, drop, get_or, length};
 ghost use Rattle.style_table.specs.Range.{IsInRange};
-ghost use Rattle.line_tokens.specs.declared.LineTok.{LineTok};
-ghost use Rattle.line_tokens.specs.Columns.{end_of};
 ghost use Rattle.comment_rows.specs.Comments.{ends_in, first_start, is_next, rows_before, start_by};
 
 use layout_tables::spaces_before;
@@ -60,17 +58,6 @@ pub(crate) fn first_start(slot: Option<Slot>) -> u32
     match slot {
         None => 0,
         Some(slot) => slot.end,
-    }
-}
-
-/// The column behind a token that starts at a column.
-pub(crate) fn end_of(token: &LineTok, start: u32) -> u32
-    ensures { result ≡ end_of token.now start }
-{
-    if token.rows > 1 {
-        token.last_width
-    } else {
-        start.saturating_add(token.last_width)
     }
 }
 
