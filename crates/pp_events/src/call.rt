@@ -20,7 +20,7 @@ pub fn is_spelled(token: &Tok, text: &[u8]) -> bool
     ensures { result ≡ is_text text.now (tok_shown token.now) }
 {
     match &token.token {
-        PpToken::Plain { text: s } => s.as_slice() == text,
+        PpToken::Plain { text: spelling } => spelling.as_slice() == text,
         PpToken::Line { .. } => text.is_empty(),
         PpToken::Str { .. } => text.is_empty(),
         PpToken::Pasted { .. } => text.is_empty(),
@@ -87,7 +87,7 @@ fn one_less(limit: Option<usize>) -> Option<usize>
 {
     match limit {
         None => None,
-        Some(n) => Some(n - 1),
+        Some(commas) => Some(commas - 1),
     }
 }
 
@@ -107,12 +107,12 @@ fn read_args(
     let mut limit = limit;
     let mut depth: usize = 0;
     let mut arg: Vec<Tok> = Vec::new(alloc);
-    for i in 1..rest.len() {
-        let t = &rest[i];
-        match mark_of(t, depth, limit) {
+    for index in 1..rest.len() {
+        let token = &rest[index];
+        match mark_of(token, depth, limit) {
             Mark::End => {
                 args.push(arg)?;
-                return Ok(Some(i));
+                return Ok(Some(index));
             }
             Mark::Comma => {
                 args.push(arg)?;
@@ -120,7 +120,7 @@ fn read_args(
                 limit = one_less(limit);
             }
             Mark::Within(inner) => {
-                add_tok(alloc, &mut arg, t)?;
+                add_tok(alloc, &mut arg, token)?;
                 depth = inner;
             }
         }
@@ -141,9 +141,9 @@ pub fn collect_actuals(
     let mut args = Vec::new(alloc);
     match read_args(alloc, limit, rest, &mut args)? {
         None => Ok(None),
-        Some(i) => {
-            let close = copy_names(alloc, rest[i].hide.as_slice())?;
-            let taken = i + 1;
+        Some(end) => {
+            let close = copy_names(alloc, rest[end].hide.as_slice())?;
+            let taken = end + 1;
             Ok(Some(Actuals { args, close, taken }))
         }
     }

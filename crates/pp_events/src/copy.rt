@@ -62,25 +62,25 @@ pub fn copy_token(alloc: Global, token: &PpToken) -> Result<PpToken, AllocError>
 
 /// A copy of a list.
 #[cycle(copying)]
-pub fn copy_tokens(alloc: Global, ts: &PpTokens) -> Result<PpTokens, AllocError>
-    ensures { IfOk result (λ r. shown_tokens r ≡ shown_tokens ts.now) }
+pub fn copy_tokens(alloc: Global, tokens: &PpTokens) -> Result<PpTokens, AllocError>
+    ensures { IfOk result (λ r. shown_tokens r ≡ shown_tokens tokens.now) }
 {
     let mut items = Vec::new(alloc);
-    for t in &ts.items {
-        items.push(copy_token(alloc, t)?)?;
+    for token in &tokens.items {
+        items.push(copy_token(alloc, token)?)?;
     }
     Ok(as_tokens(items))
 }
 
 /// A copy of a string's parts.
 #[cycle(copying)]
-pub fn copy_parts(alloc: Global, ps: &SpacedList) -> Result<SpacedList, AllocError>
-    ensures { IfOk result (λ r. shown_spaceds r ≡ shown_spaceds ps.now) }
+pub fn copy_parts(alloc: Global, parts: &SpacedList) -> Result<SpacedList, AllocError>
+    ensures { IfOk result (λ r. shown_spaceds r ≡ shown_spaceds parts.now) }
 {
     let mut items = Vec::new(alloc);
-    for p in &ps.items {
-        let token = copy_token(alloc, &p.token)?;
-        items.push(spaced(token, p.white))?;
+    for part in &parts.items {
+        let token = copy_token(alloc, &part.token)?;
+        items.push(spaced(token, part.white))?;
     }
     Ok(as_parts(items))
 }
@@ -100,8 +100,8 @@ pub fn add_names(alloc: Global, out: &mut Vec<Vec<u8>>, names: &[Vec<u8>]) -> Re
     ensures { IfOk result
         (λ _. map (λ n. n.items) out.new.items ≡ map (λ n. n.items) out.old.items ++ map (λ n. n.items) names.now) }
 {
-    for n in names {
-        add_name(alloc, out, n.as_slice())?;
+    for name in names {
+        add_name(alloc, out, name.as_slice())?;
     }
     Ok(())
 }
@@ -140,12 +140,12 @@ pub fn add_tok(alloc: Global, toks: &mut Vec<Tok>, tok: &Tok) -> Result<(), Allo
 }
 
 /// A copy of some tokens.
-pub fn copy_toks(alloc: Global, ts: &[Tok]) -> Result<Vec<Tok>, AllocError>
-    ensures { IfOk result (λ r. toks_shown r ≡ map tok_shown ts.now) }
+pub fn copy_toks(alloc: Global, toks: &[Tok]) -> Result<Vec<Tok>, AllocError>
+    ensures { IfOk result (λ r. toks_shown r ≡ map tok_shown toks.now) }
 {
     let mut out = Vec::new(alloc);
-    for t in ts {
-        add_tok(alloc, &mut out, t)?;
+    for tok in toks {
+        add_tok(alloc, &mut out, tok)?;
     }
     Ok(out)
 }
@@ -155,8 +155,8 @@ pub fn copy_args(alloc: Global, args: &[Vec<Tok>]) -> Result<VecDeque<Vec<Tok>>,
     ensures { IfOk result (λ r. map toks_shown r.items ≡ map toks_shown args.now) }
 {
     let mut out = VecDeque::new(alloc);
-    for a in args {
-        out.push_back(copy_toks(alloc, a.as_slice())?)?;
+    for arg in args {
+        out.push_back(copy_toks(alloc, arg.as_slice())?)?;
     }
     Ok(out)
 }

@@ -37,9 +37,9 @@ pub fn spelling_of(token: &PpToken) -> &[u8]
 pub fn look_up<'t>(table: &'t [Macro], name: &[u8]) -> Option<&'t Macro>
     ensures { option_map (λ m. macro_shown m.now) result ≡ lookup (map macro_shown table.now) name.now }
 {
-    for m in table {
-        if m.name.as_slice() == name {
-            return Some(m);
+    for entry in table {
+        if entry.name.as_slice() == name {
+            return Some(entry);
         }
     }
     None
@@ -68,11 +68,11 @@ fn is_one_empty(args: &[Vec<Tok>]) -> bool
 fn has_right_number(definition: &Macro, args: &[Vec<Tok>]) -> bool
     ensures { result ≡ fits (macro_shown definition.now) (map toks_shown args.now) }
 {
-    let n = args.len();
+    let count = args.len();
     if definition.variadic {
-        n > 0 && n - 1 == definition.arity
+        count > 0 && count - 1 == definition.arity
     } else {
-        n == definition.arity || definition.arity == 0 && is_one_empty(args)
+        count == definition.arity || definition.arity == 0 && is_one_empty(args)
     }
 }
 
@@ -166,7 +166,7 @@ fn begin_function<'t>(
                 };
                 match collect_actuals(alloc, limit, rest)? {
                     None => Ok(None),
-                    Some(a) => with_arguments(alloc, definition, token, a, rest),
+                    Some(actuals) => with_arguments(alloc, definition, token, actuals, rest),
                 }
             } else {
                 Ok(None)
@@ -217,7 +217,7 @@ fn begin_at<'t>(
 {
     match named_macro(table, token) {
         None => Ok(None),
-        Some(m) => begin_named(alloc, m, token, rest),
+        Some(definition) => begin_named(alloc, definition, token, rest),
     }
 }
 
@@ -251,8 +251,8 @@ fn settled(token: Tok) -> Tok
 fn put_before(mut tokens: Vec<Tok>, rest: &mut VecDeque<Tok>) -> Result<(), AllocError>
     ensures { IfOk result (λ _. rest.new.items ≡ tokens.items ++ rest.old.items) }
 {
-    while let Some(t) = tokens.pop() {
-        rest.push_front(t)?;
+    while let Some(token) = tokens.pop() {
+        rest.push_front(token)?;
     }
     Ok(())
 }

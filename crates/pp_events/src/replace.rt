@@ -23,8 +23,8 @@ use std::collections::VecDeque;
 pub fn contains_name(names: &[Vec<u8>], name: &[u8]) -> bool
     ensures { result ≡ is_in name.now (map (λ n. n.items) names.now) }
 {
-    for n in names {
-        if name == n.as_slice() {
+    for other in names {
+        if name == other.as_slice() {
             return true;
         }
     }
@@ -41,9 +41,9 @@ pub fn common_names(
         (λ r. map (λ n. n.items) r.items ≡ common (map (λ n. n.items) left.now) (map (λ n. n.items) right.now)) }
 {
     let mut out = Vec::new(alloc);
-    for n in left {
-        if contains_name(right, n.as_slice()) {
-            add_name(alloc, &mut out, n.as_slice())?;
+    for name in left {
+        if contains_name(right, name.as_slice()) {
+            add_name(alloc, &mut out, name.as_slice())?;
         }
     }
     Ok(out)
@@ -58,10 +58,10 @@ fn joined_text(
     ensures { IfOk result (λ r. option_map (λ v. v.items) r ≡ joined (shown left.now) (shown right.now)) }
 {
     match left {
-        PpToken::Plain { text: s } => match right {
-            PpToken::Plain { text: t } => {
-                let mut text = copy_bytes(alloc, s.as_slice())?;
-                text.extend_from_slice(t.as_slice())?;
+        PpToken::Plain { text: left_text } => match right {
+            PpToken::Plain { text: right_text } => {
+                let mut text = copy_bytes(alloc, left_text.as_slice())?;
+                text.extend_from_slice(right_text.as_slice())?;
                 Ok(Some(text))
             }
             PpToken::Line { .. } => Ok(None),
@@ -176,24 +176,24 @@ fn paste_tokens<R: Spellings>(
 fn argument_of(args: &[Vec<Tok>], index: usize) -> &[Tok]
     ensures { map tok_shown result.now ≡ argument (map toks_shown args.now) index }
 {
-    let mut k = index;
-    for a in args {
-        if k == 0 {
-            return a.as_slice();
+    let mut before = index;
+    for arg in args {
+        if before == 0 {
+            return arg.as_slice();
         }
-        k -= 1;
+        before -= 1;
     }
     &[]
 }
 
 /// The tokens of an argument as parts of a string.
-fn quoted_items(alloc: Global, ts: &[Tok]) -> Result<Vec<Spaced>, AllocError>
-    ensures { IfOk result (λ r. map shown_spaced r.items ≡ spaced_pairs ts.now) }
+fn quoted_items(alloc: Global, toks: &[Tok]) -> Result<Vec<Spaced>, AllocError>
+    ensures { IfOk result (λ r. map shown_spaced r.items ≡ spaced_pairs toks.now) }
 {
     let mut items = Vec::new(alloc);
-    for t in ts {
-        let token = copy_token(alloc, &t.token)?;
-        items.push(spaced(token, t.white))?;
+    for tok in toks {
+        let token = copy_token(alloc, &tok.token)?;
+        items.push(spaced(token, tok.white))?;
     }
     Ok(items)
 }
@@ -211,18 +211,18 @@ fn trimmed(items: Vec<Spaced>) -> Vec<Spaced>
 
 /// The string that `#` makes.
 #[tactic(auto, using(crate::proofs::Arguments::parts_of_shown))]
-fn quoted_parts(alloc: Global, ts: &[Tok]) -> Result<SpacedList, AllocError>
-    ensures { IfOk result (λ r. shown_spaceds r ≡ parts_of (map tok_shown ts.now)) }
+fn quoted_parts(alloc: Global, toks: &[Tok]) -> Result<SpacedList, AllocError>
+    ensures { IfOk result (λ r. shown_spaceds r ≡ parts_of (map tok_shown toks.now)) }
 {
-    let items = quoted_items(alloc, ts)?;
+    let items = quoted_items(alloc, toks)?;
     Ok(as_parts(trimmed(items)))
 }
 
 /// The token that `#` makes.
-fn quoted_tok(alloc: Global, line: u64, ts: &[Tok]) -> Result<Tok, AllocError>
-    ensures { IfOk result (λ r. tok_shown r ≡ quoted line (map tok_shown ts.now)) }
+fn quoted_tok(alloc: Global, line: u64, toks: &[Tok]) -> Result<Tok, AllocError>
+    ensures { IfOk result (λ r. tok_shown r ≡ quoted line (map tok_shown toks.now)) }
 {
-    let parts = quoted_parts(alloc, ts)?;
+    let parts = quoted_parts(alloc, toks)?;
     Ok(Tok {
         token: PpToken::Str { parts },
         kind: ItemKind::Other,
@@ -267,14 +267,14 @@ fn tokens_of_part(
         ≡ tokens_of line (map toks_shown written.now) (map toks_shown full.now) (what_shown what.now)) }
 {
     match what {
-        What::Word(t) => {
-            let copy = copy_tok(alloc, t)?;
+        What::Word(tok) => {
+            let copy = copy_tok(alloc, tok)?;
             one_token(alloc, lined_tok(copy, line))
         }
-        What::Full(i) => copy_toks(alloc, argument_of(full, *i)),
-        What::Written(i) => copy_toks(alloc, argument_of(written, *i)),
-        What::Quoted(i) => {
-            let made = quoted_tok(alloc, line, argument_of(written, *i))?;
+        What::Full(index) => copy_toks(alloc, argument_of(full, *index)),
+        What::Written(index) => copy_toks(alloc, argument_of(written, *index)),
+        What::Quoted(index) => {
+            let made = quoted_tok(alloc, line, argument_of(written, *index))?;
             one_token(alloc, made)
         }
     }
@@ -326,9 +326,9 @@ fn add_free(out: &mut VecDeque<Piece>, toks: VecDeque<Tok>) -> Result<(), AllocE
         (λ _. map piece_shown out.new.items ≡ map piece_shown out.old.items ++ map free (map tok_shown toks.items)) }
 {
     let mut toks = toks;
-    while let Some(t) = toks.pop_front() {
+    while let Some(tok) = toks.pop_front() {
         out.push_back(Piece {
-            tok: Some(t),
+            tok: Some(tok),
             glue: false,
         })?;
     }
@@ -349,9 +349,9 @@ fn body_pieces(
         (map part_shown body.now)) }
 {
     let mut out = VecDeque::new(alloc);
-    for p in body {
-        let toks = tokens_of_part(alloc, line, written, full, &p.what)?;
-        add_pieces(&mut out, p.glue, p.white, VecDeque::from_vec(toks))?;
+    for part in body {
+        let toks = tokens_of_part(alloc, line, written, full, &part.what)?;
+        add_pieces(&mut out, part.glue, part.white, VecDeque::from_vec(toks))?;
     }
     Ok(out)
 }
@@ -404,17 +404,17 @@ fn paste_rest<R: Spellings>(
         map piece_shown r.items ≡ paste_from (R.kinds reader.now) (piece_shown first) (map piece_shown rest.items)) }
 {
     let mut out = VecDeque::new(alloc);
-    let mut p = first;
+    let mut left = first;
     let mut rest = rest;
-    while let Some(q) = rest.pop_front() {
-        if q.glue {
-            p = glued(alloc, reader, p, q)?;
+    while let Some(right) = rest.pop_front() {
+        if right.glue {
+            left = glued(alloc, reader, left, right)?;
         } else {
-            out.push_back(p)?;
-            p = q;
+            out.push_back(left)?;
+            left = right;
         }
     }
-    out.push_back(p)?;
+    out.push_back(left)?;
     Ok(out)
 }
 
@@ -422,14 +422,15 @@ fn paste_rest<R: Spellings>(
 fn paste_pieces<R: Spellings>(
     alloc: Global,
     reader: &R,
-    ps: VecDeque<Piece>,
+    pieces: VecDeque<Piece>,
 ) -> Result<VecDeque<Piece>, AllocError>
-    ensures { IfOk result (λ r. map piece_shown r.items ≡ paste_all (R.kinds reader.now) (map piece_shown ps.items)) }
+    ensures { IfOk result
+        (λ r. map piece_shown r.items ≡ paste_all (R.kinds reader.now) (map piece_shown pieces.items)) }
 {
-    let mut ps = ps;
-    match ps.pop_front() {
-        None => Ok(ps),
-        Some(p) => paste_rest(alloc, reader, p, ps),
+    let mut pieces = pieces;
+    match pieces.pop_front() {
+        None => Ok(pieces),
+        Some(first) => paste_rest(alloc, reader, first, pieces),
     }
 }
 
@@ -445,15 +446,20 @@ fn hidden_tok(alloc: Global, hide: &[Vec<u8>], tok: Tok) -> Result<Tok, AllocErr
 }
 
 /// The tokens of pieces, without placemarkers, each with more names in its hide set.
-fn kept_toks(alloc: Global, hide: &[Vec<u8>], ps: VecDeque<Piece>) -> Result<Vec<Tok>, AllocError>
-    ensures { IfOk result
-        (λ r. map tok_shown r.items ≡ map (hidden (map (λ n. n.items) hide.now)) (kept (map piece_shown ps.items))) }
+fn kept_toks(
+    alloc: Global,
+    hide: &[Vec<u8>],
+    pieces: VecDeque<Piece>,
+) -> Result<Vec<Tok>, AllocError>
+    ensures { IfOk result (λ r.
+        map tok_shown r.items
+        ≡ map (hidden (map (λ n. n.items) hide.now)) (kept (map piece_shown pieces.items))) }
 {
     let mut out = Vec::new(alloc);
-    let mut ps = ps;
-    while let Some(p) = ps.pop_front() {
-        if let Some(t) = p.tok {
-            let made = hidden_tok(alloc, hide, t)?;
+    let mut pieces = pieces;
+    while let Some(piece) = pieces.pop_front() {
+        if let Some(tok) = piece.tok {
+            let made = hidden_tok(alloc, hide, tok)?;
             out.push(made)?;
         }
     }

@@ -60,11 +60,11 @@ fn are_same_tokens(left: &PpTokens, right: &PpTokens) -> bool
     ensures { result ≡ tokens_eq (erase_tokens (shown_tokens left.now)) (erase_tokens (shown_tokens right.now)) }
 {
     let mut rest = right.items.as_slice();
-    for t in &left.items {
+    for token in &left.items {
         match rest {
             [] => return false,
             [first, others @ ..] => {
-                if !is_same_token(t, first) {
+                if !is_same_token(token, first) {
                     return false;
                 }
                 rest = others;
@@ -80,11 +80,11 @@ fn are_same_parts(left: &SpacedList, right: &SpacedList) -> bool
     ensures { result ≡ parts_eq (erase_parts (shown_spaceds left.now)) (erase_parts (shown_spaceds right.now)) }
 {
     let mut rest = right.items.as_slice();
-    for p in &left.items {
+    for part in &left.items {
         match rest {
             [] => return false,
             [first, others @ ..] => {
-                if !is_same_token(&p.token, &first.token) {
+                if !is_same_token(&part.token, &first.token) {
                     return false;
                 }
                 rest = others;

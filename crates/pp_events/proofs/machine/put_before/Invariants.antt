@@ -1,8 +1,8 @@
 use Rattle.std.proofs.Common.{◌≡◌, ◌++◌, length}
 use Rattle.pp_events.proofs.machine.put_before.Given as goal
 
-abbrev pub invariant-loop-t : goal.invariant-loop-t
-invariant-loop-t l = l.tokens.items ++ l.rest.items ≡ l.fn.tokens.items ++ l.fn.rest.items
+abbrev pub invariant-loop-token : goal.invariant-loop-token
+invariant-loop-token l = l.tokens.items ++ l.rest.items ≡ l.fn.tokens.items ++ l.fn.rest.items
 
-abbrev pub decreases-loop-t : goal.decreases-loop-t
-decreases-loop-t l = length l.tokens.items
+abbrev pub decreases-loop-token : goal.decreases-loop-token
+decreases-loop-token l = length l.tokens.items
