@@ -27,9 +27,10 @@ fn is_universal_name(unit: &[u8]) -> bool
     ensures { result ≡ is_universal_name unit.now }
 {
     match unit {
-        [b, k, digits @ ..] => {
-            *b == b'\\'
-                && ((*k == b'u' && digits.len() == 4) || (*k == b'U' && digits.len() == 8))
+        [backslash, letter, digits @ ..] => {
+            *backslash == b'\\'
+                && ((*letter == b'u' && digits.len() == 4)
+                    || (*letter == b'U' && digits.len() == 8))
                 && are_hex(digits)
         }
         _ => false,
@@ -41,7 +42,7 @@ fn starts_word(unit: &[u8]) -> bool
     ensures { result ≡ is_wide is_xid_start unit.now }
 {
     match only_char(unit) {
-        Some(c) => unicode_ident::is_xid_start(c),
+        Some(character) => unicode_ident::is_xid_start(character),
         None => false,
     }
 }
@@ -51,7 +52,7 @@ pub(crate) fn starts_no_word(unit: &[u8]) -> bool
     ensures { result ≡ is_wide (λ c. not (is_xid_start c)) unit.now }
 {
     match only_char(unit) {
-        Some(c) => !unicode_ident::is_xid_start(c),
+        Some(character) => !unicode_ident::is_xid_start(character),
         None => false,
     }
 }
@@ -61,7 +62,7 @@ fn continues_word(unit: &[u8]) -> bool
     ensures { result ≡ is_wide is_xid_continue unit.now }
 {
     match only_char(unit) {
-        Some(c) => unicode_ident::is_xid_continue(c),
+        Some(character) => unicode_ident::is_xid_continue(character),
         None => false,
     }
 }
@@ -71,7 +72,7 @@ fn is_one_letter(unit: &[u8]) -> bool
     ensures { result ≡ is_one is_letter unit.now }
 {
     match unit {
-        [b] => is_letter(*b),
+        [letter] => is_letter(*letter),
         _ => false,
     }
 }
@@ -81,7 +82,7 @@ fn is_one_digit(unit: &[u8]) -> bool
     ensures { result ≡ is_one is_digit unit.now }
 {
     match unit {
-        [b] => is_digit(*b),
+        [digit] => is_digit(*digit),
         _ => false,
     }
 }
@@ -108,8 +109,8 @@ pub(crate) fn is_number_head(unit: &[u8]) -> bool
     ensures { result ≡ is_number_head unit.now }
 {
     match unit {
-        [b] => is_digit(*b),
-        [b, c] => *b == b'.' && is_digit(*c),
+        [digit] => is_digit(*digit),
+        [point, digit] => *point == b'.' && is_digit(*digit),
         _ => false,
     }
 }
@@ -119,7 +120,7 @@ fn is_point(unit: &[u8]) -> bool
     ensures { result ≡ is_one (λ c. c == 46) unit.now }
 {
     match unit {
-        [b] => *b == b'.',
+        [point] => *point == b'.',
         _ => false,
     }
 }
@@ -129,7 +130,7 @@ fn is_signed(unit: &[u8]) -> bool
     ensures { result ≡ is_two is_exponent is_sign unit.now }
 {
     match unit {
-        [b, c] => is_exponent(*b) && is_sign(*c),
+        [exponent, sign] => is_exponent(*exponent) && is_sign(*sign),
         _ => false,
     }
 }
@@ -141,7 +142,7 @@ fn is_separated(dialect: Dialect, unit: &[u8]) -> bool
     match dialect {
         Dialect::C11 => false,
         Dialect::C23 => match unit {
-            [b, c] => *b == b'\'' && is_separable(*c),
+            [separator, separated] => *separator == b'\'' && is_separable(*separated),
             _ => false,
         },
     }
@@ -161,8 +162,8 @@ pub(crate) fn is_quoted_unit(quote: u8, unit: &[u8]) -> bool
     ensures { result ≡ is_quoted_unit quote unit.now }
 {
     match unit {
-        [b] => *b != quote && *b != b'\\' && !is_new_line(*b),
-        [b, c] => *b == b'\\' && !is_new_line(*c),
+        [byte] => *byte != quote && *byte != b'\\' && !is_new_line(*byte),
+        [backslash, byte] => *backslash == b'\\' && !is_new_line(*byte),
         _ => false,
     }
 }

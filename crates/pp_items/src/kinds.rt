@@ -181,7 +181,7 @@ fn is_other(dialect: Dialect, text: &[u8]) -> bool
     ensures { result ≡ is_other_unit dialect text.now }
 {
     match text {
-        [b] => begins_nothing(dialect, *b) || class::starts_no_word(text),
+        [byte] => begins_nothing(dialect, *byte) || class::starts_no_word(text),
         _ => class::starts_no_word(text),
     }
 }

@@ -24,12 +24,12 @@ fn next_before(chars: &mut Chars<'_>, end: usize) -> Option<LogicalChar>
         (λ c. (chars.old.chars ≡ c ∷ chars.new.chars) × (c.from < end)) }
 {
     let mut ahead = chars.ahead();
-    let c = ahead.next()?;
-    if c.from as usize >= end {
+    let character = ahead.next()?;
+    if character.from as usize >= end {
         return None;
     }
     *chars = ahead;
-    Some(c)
+    Some(character)
 }
 
 #[tactic(auto, unfolding(c_grammar::specs::Grammar::is_new_line))]
@@ -39,9 +39,9 @@ fn pass_gap(chars: &mut Chars<'_>, end: usize) -> Option<usize>
     ensures rest { chars.new.chars ≡ past end chars.old.chars }
 {
     let mut line_end = None;
-    while let Some(c) = next_before(chars, end) {
-        if c.byte == b'\n' && line_end.is_none() {
-            line_end = Some(c.to as usize);
+    while let Some(character) = next_before(chars, end) {
+        if character.byte == b'\n' && line_end.is_none() {
+            line_end = Some(character.to as usize);
         }
     }
     line_end
@@ -53,8 +53,8 @@ fn read_spelling(alloc: Global, chars: &mut Chars<'_>, end: usize) -> Result<Vec
     ensures rest { IfOk result (λ text. chars.new.chars ≡ past end chars.old.chars) }
 {
     let mut text = Vec::new(alloc);
-    while let Some(c) = next_before(chars, end) {
-        text.push(c.byte)?;
+    while let Some(character) = next_before(chars, end) {
+        text.push(character.byte)?;
     }
     Ok(text)
 }

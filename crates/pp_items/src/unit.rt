@@ -38,11 +38,11 @@ fn word_len(text: &[u8]) -> usize
     ensures some { 1 ≤ result }
 {
     match text {
-        [b, rest @ ..] => {
-            if *b == b'\\' {
+        [first, rest @ ..] => {
+            if *first == b'\\' {
                 name_len(rest)
             } else {
-                char_len(*b)
+                char_len(*first)
             }
         }
         [] => 1,
@@ -54,7 +54,8 @@ fn begins_two(text: &[u8]) -> bool
     ensures { result ≡ begins_two text.now }
 {
     match text {
-        [b, c, ..] => (class::is_exponent(*b) && class::is_sign(*c)) || *b == b'\'',
+        [first, second, ..] => (class::is_exponent(*first) && class::is_sign(*second))
+            || *first == b'\'',
         _ => false,
     }
 }
