@@ -31,15 +31,16 @@ fn directive_in(arena: &TokenArena<'_, '_>, first: u32, end: u32) -> Option<Dire
     })
 }
 
-/// The sections; text lines that follow one another are joined. Only lines are looked at that have what may be a `#`.
+/// The sections; text lines that follow one another are joined. Only lines are looked at that have what may be a `#`:
+/// each is a directive with a text before it at most, and one text may stand behind them all.
 fn cut_lines<'a>(arena: &TokenArena<'_, '_>, bump: &'a Bump) -> Result<&'a [Section], NoMemory>
     ensures { IfOk result (λ sections. sections.now ≡ sections_of arena.now) }
 {
     let count = arena.len();
-    let mut done = Vec::new(bump);
+    let mut hashes = arena.hashes();
+    let mut done = Vec::with_capacity(bump, hashes.len() * 2 + 1)?;
     let mut from = 0;
     let mut at = 0;
-    let mut hashes = arena.hashes();
     while let [hash, behind @ ..] = hashes {
         if *hash < at {
             hashes = behind;

@@ -11,7 +11,7 @@ pub loop-hashes-init : goal.loop-hashes-init
 loop-hashes-init c = record {
   order = omega arith;
   within = omega arith;
-  same = rw c.new-done.ensures.items refl;
+  same = rw c.in_ok-done.ensures.items refl;
   left = all_numbers c.args.arena.now.tokens ∙ ap (from_number 0) (sym c.hashes-hashes.ensures);
 }
 
