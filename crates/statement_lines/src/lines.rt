@@ -1,8 +1,9 @@
 //! The lines of tokens, as they are kept.
 
-ghost use Rattle.std.specs.Prelude.{◌≡◌, ◌<◌, ◌∷◌, [], ◌++◌, length, map, slice_get, IfOk, OnOk};
+ghost use Rattle.std.specs.Prelude.{◌≡◌, ◌<◌, ◌≤◌, ◌∷◌, [], ◌++◌, length, map, slice_get, slice_index_or};
+ghost use Rattle.std.specs.Prelude.{IfOk, OnOk};
 ghost use Rattle.std.specs.Vec.{vec_len, vec_capacity};
-ghost use Rattle.statement_lines.specs.Lines.{row_of};
+ghost use Rattle.statement_lines.specs.Lines.{row_of, lines_told};
 
 use crate::line::Line;
 use bumpalo::Bump;
@@ -31,10 +32,36 @@ pub(crate) fn reserve_room<T: Copy>(items: &mut Vec<T, &Bump>) -> Result<(), NoM
     make_room(items)
 }
 
+/// Keeps the level of a comment before each of these lines that has none kept, which is the line's own.
+#[inline(never)]
+fn keep_levels(levels: &mut Vec<u32, &Bump>, rows: &[ULine]) -> Result<(), NoMemory>
+    requires { length levels.old.items ≤ length rows.now }
+    ensures lines { lines_told rows.now levels.new.items ≡ lines_told rows.now levels.old.items }
+    ensures some { length levels.new.items ≤ length rows.now }
+    ensures all { OnOk result (length levels.new.items ≡ length rows.now) }
+{
+    while levels.len() < rows.len() {
+        levels.push(rows[levels.len()].level)?;
+    }
+    Ok(())
+}
+
+/// The level of a comment before the line with this number and level.
+#[inline(always)]
+fn kept_level(levels: &[u32], number: usize, level: u32) -> u32
+    ensures { result ≡ slice_index_or levels.now number level }
+{
+    if number < levels.len() {
+        levels[number]
+    } else {
+        level
+    }
+}
+
 /// Lines of tokens that are no comments. A contract sees a list of [`Line`].
 ///
 /// They are kept as lines of a view, which they are where it has no comments. The levels of comments before them stand
-/// apart.
+/// apart, up to the last that isn't its line's own.
 #[derive(Drop)]
 pub struct Lines<'r> {
     levels: Vec<u32, &'r Bump>,
@@ -73,15 +100,17 @@ impl<'r> Lines<'r> {
         requires { 0 < line.end }
         ensures { IfOk result (λ u. self.new ≡ self.old ++ line ∷ []) }
     {
-        reserve_room(&mut self.levels)?;
         reserve_room(&mut self.rows)?;
+        if line.list_level != line.level {
+            keep_levels(&mut self.levels, &self.rows)?;
+            self.levels.push(line.list_level)?;
+        }
         self.rows.push_reserved(ULine {
             first: line.first,
             last: line.end - 1,
             level: line.level,
             kind: line.kind,
         });
-        self.levels.push_reserved(line.list_level);
         Ok(())
     }
 
@@ -107,7 +136,7 @@ impl<'r> Lines<'r> {
             end: row.last + 1,
             level: row.level,
             kind: row.kind,
-            list_level: self.levels[number],
+            list_level: kept_level(&self.levels, number, row.level),
         })
     }
 

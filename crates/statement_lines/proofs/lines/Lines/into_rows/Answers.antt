@@ -5,4 +5,4 @@ use Rattle.statement_lines.proofs.KeptLines.{told_rows}
 use Rattle.statement_lines.proofs.lines.Lines.into_rows.Goals as goal
 
 pub returns : goal.returns
-returns c = told_rows c.self.inside.rows.items c.self.inside.levels.items c.self.invariant.count ∙ ap (λ (ls : List Line). map row_of ls) c.self.view_is
+returns c = told_rows c.self.inside.rows.items c.self.inside.levels.items ∙ ap (λ (ls : List Line). map row_of ls) c.self.view_is

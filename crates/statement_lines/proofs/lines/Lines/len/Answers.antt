@@ -6,5 +6,5 @@ use Rattle.statement_lines.proofs.lines.Lines.len.Goals as goal
 pub returns : goal.returns
 returns c =
     let rows = c.self.inside.rows.items in
-    let many : length c.args.self.now ≡ length rows = sym (ap (λ (ls : List Line). length ls) c.self.view_is) ∙ line_of_each_row rows c.self.inside.levels.items c.self.invariant.count in
+    let many : length c.args.self.now ≡ length rows = sym (ap (λ (ls : List Line). length ls) c.self.view_is) ∙ line_of_each_row rows c.self.inside.levels.items in
     omega (arith, c.len.ensures, c.self.inside.rows.ok.0, many)
