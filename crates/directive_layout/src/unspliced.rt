@@ -18,10 +18,11 @@ use crate::part::{HeadPart, first_part, next_part};
 use crate::staying::{Staying, stays};
 use crate::walk::is_operand;
 use c_chars::Dialect;
-use line_tokens::{LineTok, TokenId};
+use line_tokens::TokenId;
 use replacements::{Decision, Plan};
 use style_table::Style;
 use token_arena::{Token, TokenArena};
+use view_tokens::ViewTokens;
 
 /// What is decided behind an item of the head, which is this part.
 #[inline(always)]
@@ -57,7 +58,7 @@ fn operand_decision(
     style: &Style,
     dialect: Dialect,
     staying: Staying,
-    toks: &[LineTok],
+    toks: &ViewTokens<'_>,
     left: &Token<'_>,
     token: &Token<'_>,
     index: u32,
@@ -85,7 +86,7 @@ fn lay_operand(
     style: &Style,
     arena: &TokenArena<'_, '_>,
     staying: Staying,
-    toks: &[LineTok],
+    toks: &ViewTokens<'_>,
     first: u32,
     end: u32,
     plan: &mut Plan<'_>,
@@ -127,7 +128,7 @@ pub(crate) fn lay_unspliced(
     arena: &TokenArena<'_, '_>,
     depth: u32,
     staying: Staying,
-    toks: &[LineTok],
+    toks: &ViewTokens<'_>,
     first: u32,
     end: u32,
     plan: &mut Plan<'_>,

@@ -6,8 +6,8 @@
 
 mod all;
 mod conditionals;
+mod directive;
 mod laws;
-mod roles;
 
 pub use all::lay_all;
 pub use laws::{all_directives_are_decided, all_directives_stay_sound};

@@ -2,7 +2,6 @@
 
 ghost use Rattle.std.specs.Prelude.{◌≡◌, ◌+◌, ◌-◌, ◌<◌, ◌≤◌, ◌^◌, All, IfSome, IsTrue, None, drop, false, ℕ, get_or};
 ghost use Rattle.std.specs.Prelude.{if◌then◌else◌, length, min, true};
-ghost use Rattle.line_tokens.specs.declared.LineTok.{LineTok};
 ghost use Rattle.line_tokens.specs.Roles.{is_trailing};
 ghost use Rattle.style_table.specs.Range.{IsInRange};
 ghost use Rattle.line_tokens.specs.Columns.{columns, end_of};
@@ -13,15 +12,14 @@ ghost use Rattle.replacements.specs.declared.gap_text.Decision.TheVariants.{Spac
 ghost use Rattle.layout_tables.specs.Breaks.{ends_its_row};
 ghost use Rattle.layout_tables.specs.Spaces.{spaces_before};
 ghost use Rattle.layout_tables.specs.Told.{TellBlanks, group_before, group_behind};
-ghost use Rattle.run_layout.specs.OneRow.{AreOpenInside, IsRow, IsRowLine, IsShortRow, NeedNoCount};
-ghost use Rattle.run_layout.specs.OneRow.{StandTogether, row_made};
+ghost use Rattle.run_layout.specs.OneRow.{AreOpenInside, IsRow, IsRowLine, IsShortRow, NeedNoCount, StandTogether};
+ghost use Rattle.run_layout.specs.OneRow.{row_made};
 
 use crate::roles::{ends_row, groups_of, is_own_or_trailing};
-use layout_tables::{RowBlanks, spaces_before};
-use line_tokens::{GapFacts, LineTok, TokenId};
+use layout_tables::RowBlanks;
 use replacements::{Decision, Plan};
 use style_table::Style;
-use view_tokens::RowTokens;
+use view_tokens::{RowTokens, spaces_behind};
 
 /// A line of more tokens isn't tested for a short row.
 const MOST_TOKENS: usize = 1000;
@@ -123,56 +121,6 @@ fn ends_waiting(tokens: &RowTokens<'_>, at: usize) -> bool
         && !ends_row(tokens.kind(at - 1), tokens.is_in_trailing_list(at))
 }
 
-/// A token of a row as the table of blanks sees it, where it may stand directly behind the one before it.
-#[inline(always)]
-fn seen_by_table(tokens: &RowTokens<'_>, at: usize) -> LineTok
-    requires { at < length tokens.now }
-    ensures role { result.role ≡ (get_or tokens.now at no_token).role }
-    ensures kind { result.kind ≡ (get_or tokens.now at no_token).kind }
-    ensures empty { result.gap.empty ≡ (get_or tokens.now at no_token).gap.empty }
-    ensures touch { result.touch ≡ true }
-{
-    LineTok {
-        id: TokenId(0),
-        role: tokens.role(at),
-        power: 0,
-        depth: 0,
-        trailing_list: false,
-        held: false,
-        touch: true,
-        directive: false,
-        gap: GapFacts {
-            lines: 0,
-            empty: tokens.is_behind_nothing(at),
-            white: false,
-            splice: false,
-            began: false,
-        },
-        kind: tokens.kind(at),
-        rows: 1,
-        first_width: 0,
-        last_width: 0,
-    }
-}
-
-/// The blanks before the token at a place of a row, by the table. Whether it touches the item before it is asked only
-/// where the table tells none in a gap with bytes.
-#[inline(never)]
-fn spaces_by_table(style: &Style, tokens: &RowTokens<'_>, at: usize) -> u8
-    requires range { IsInRange style.now }
-    requires some { 0 < at }
-    requires within { at < length tokens.now }
-    ensures { result ≡ spaces_before style.now (get_or tokens.now (at - 1) no_token) (get_or tokens.now at no_token) }
-{
-    let left = seen_by_table(tokens, at - 1);
-    let right = seen_by_table(tokens, at);
-    let spaces = spaces_before(style, &left, &right);
-    if spaces > 0 || right.gap.empty {
-        return spaces;
-    }
-    one_if(!tokens.touches(at))
-}
-
 /// One blank or none.
 #[inline(always)]
 fn one_if(holds: bool) -> u8
@@ -228,7 +176,7 @@ fn spaces_at(style: &Style, blanks: &RowBlanks, tokens: &RowTokens<'_>, at: usiz
 {
     match told_at(style, blanks, tokens, at, group) {
         Some(told) => told,
-        None => spaces_by_table(style, tokens, at),
+        None => spaces_behind(style, tokens, at),
     }
 }
 

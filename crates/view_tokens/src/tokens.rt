@@ -1,16 +1,22 @@
 //! The tokens of a view.
 
 ghost use Rattle.std.specs.Prelude.{◌≡◌, ◌==◌, ◌<◌, ◌≤◌, ◌+◌, ℕ, IfOk, IfSome, length, get_or, slice_range, false};
+ghost use Rattle.style_table.specs.Range.{IsInRange};
+ghost use Rattle.line_tokens.specs.Tokens.{no_token};
+ghost use Rattle.layout_tables.specs.Spaces.{spaces_before};
 ghost use Rattle.line_tokens.specs.declared.LineTok.{LineTok};
 ghost use Rattle.view_tokens.specs.Tokens.{toks_from, AreTold};
 
 use crate::made::{mark_at, marks_from, push_places, token_at};
 use crate::row::RowTokens;
+use crate::spacing::spaces_behind;
 use crate::start::row_start;
 use bumpalo::Bump;
 use bumpalo::collections::into_bump_slice;
+use layout_tables::spaces_before;
 use line_tokens::{LineTok, NoMemory, Role};
 use std::marker::Model;
+use style_table::Style;
 use token_arena::{TokenArena, View};
 use token_roles::Mark;
 
@@ -80,6 +86,26 @@ impl<'v> ViewTokens<'v> {
         ensures { (d : LineTok) → result ≡ get_or self.now place d }
     {
         token_at(self.arena, self.view, self.marks, place)
+    }
+
+    /// The blanks between the tokens at two places, as [`spaces_before`](layout_tables::spaces_before) tells them.
+    /// Neither token is made where their items stand side by side in the text.
+    pub fn spaces_between(&self, style: &Style, left: usize, right: usize) -> u8
+        requires range { IsInRange style.now }
+        requires left { left < length self.now }
+        requires right { right < length self.now }
+        ensures { result ≡ spaces_before style.now (get_or self.now left no_token) (get_or self.now right no_token) }
+    {
+        let count = self.len();
+        prove!(left < count);
+        prove!(right < count);
+        let mut segment = 0;
+        if left + 1 == right {
+            if let Some(row) = self.row(left, right + 1, &mut segment) {
+                return spaces_behind(style, &row, 1);
+            }
+        }
+        spaces_before(style, &self.at(left), &self.at(right))
     }
 
     /// The tokens from one place to before another, in memory of a room. Want of memory is the only error.

@@ -7,46 +7,18 @@ ghost use Rattle.style_table.specs.Range.{IsInRange};
 ghost use Rattle.token_arena.specs.Sections.{sections_of};
 ghost use Rattle.item_classes.specs.Viewed.{item_classes};
 ghost use Rattle.token_arena.specs.declared.directives.Section.{Section};
-ghost use Rattle.token_arena.specs.declared.directives.Section.TheVariants.{Dir};
 ghost use Rattle.replacements.specs.Decisions.{decided_all};
-ghost use Rattle.directive_layout.specs.Laid.{laid};
-ghost use Rattle.early_gaps.specs.Roles.{operand_roles};
 ghost use Rattle.early_gaps.specs.AllLaid.{laid_in, all_laid};
 
 use crate::all_directives::conditionals::Conditionals;
-use crate::all_directives::roles::operand_roles;
+use crate::all_directives::directive::lay_directive;
 use bumpalo::Bump;
-use directive_layout::lay;
 use line_tokens::NoMemory;
 use replacements::Plan;
 use std::alloc::Global;
 use style_table::Style;
-use token_arena::{Directive, Section, TokenArena, nesting_of};
+use token_arena::{Section, TokenArena, nesting_of};
 use token_classes::TokenClass;
-
-/// Decides the gaps before and inside a directive that stands inside so many conditionals.
-fn lay_directive(
-    style: &Style,
-    arena: &TokenArena<'_, '_>,
-    all: &[TokenClass],
-    dir: &Directive,
-    depth: u32,
-    plan: &mut Plan<'_>,
-    run: &Bump,
-) -> Result<(), NoMemory>
-    requires depth { depth ≤ LIMIT }
-    requires range { IsInRange style.now }
-    requires all { all.now ≡ item_classes arena.now }
-    requires there { Contains (sections_of arena.now) (Dir dir.now) }
-    requires whole { length plan.old ≡ length arena.now.tokens + 1 }
-    ensures plan { OnOk result (plan.new
-        ≡ decided_all plan.old (laid style.now arena.now depth (operand_roles style.now arena.now dir.now) dir.now)) }
-    ensures len { OnOk result (length plan.new ≡ length plan.old) }
-{
-    let toks = operand_roles(style, arena, all, dir, run)?;
-    lay(style, arena, dir, depth, toks, plan);
-    Ok(())
-}
 
 /// Passes a section: of a directive the gaps are decided and the conditionals counted.
 fn lay_section(
