@@ -147,17 +147,17 @@ fn by_cost_rows(style: &Style, left: &LineTok, right: &LineTok) -> Break
     ensures row { result ≡ first_row (cost_rows style.now left.now right.now) Not }
     ensures small { cost_in result < 2 ^ 34 }
 {
-    let (l, r) = (left.role, right.role);
-    if l.is_call_or_decl_open() {
+    let (left_role, right_role) = (left.role, right.role);
+    if left_role.is_call_or_decl_open() {
         Break::Costs(
             u64::from(style.penalty_break_before_first_call_parameter)
                 + u64::from(style.penalty_break_open_parenthesis),
         )
-    } else if l.is_ctrl_or_group_open() {
+    } else if left_role.is_ctrl_or_group_open() {
         Break::Costs(100 + u64::from(style.penalty_break_open_parenthesis))
-    } else if l.is_comma_or_semi() {
+    } else if left_role.is_comma_or_semi() {
         Break::Costs(1)
-    } else if l.is_list_open() {
+    } else if left_role.is_list_open() {
         Break::Costs(10)
     } else if is_assignment_gap(style, left, right) {
         Break::Costs(u64::from(style.penalty_break_assignment))
@@ -167,9 +167,9 @@ fn by_cost_rows(style: &Style, left: &LineTok, right: &LineTok) -> Break
         Break::Costs(3)
     } else if is_string(left.kind) && is_string(right.kind) {
         Break::Costs(10)
-    } else if l.is_round_close() && r.is_member() {
+    } else if left_role.is_round_close() && right_role.is_member() {
         Break::Costs(150)
-    } else if r.is_asm_colon() && !l.is_asm_colon() {
+    } else if right_role.is_asm_colon() && !left_role.is_asm_colon() {
         Break::Costs(1)
     } else {
         Break::Not
@@ -182,8 +182,8 @@ fn by_table(style: &Style, left: &LineTok, right: &LineTok) -> Break
     ensures row { result ≡ break_by_table style.now left.now right.now }
     ensures small { cost_in result < 2 ^ 34 }
 {
-    let (l, r) = (left.role, right.role);
-    if right.directive || ends_its_row(left.kind) || r.is_own() {
+    let (left_role, right_role) = (left.role, right.role);
+    if right.directive || ends_its_row(left.kind) || right_role.is_own() {
         Break::Must
     } else if right.trailing_list {
         Break::Must
@@ -195,11 +195,11 @@ fn by_table(style: &Style, left: &LineTok, right: &LineTok) -> Break
         }
     } else if right.held {
         Break::Not
-    } else if r.is_decl_name() {
+    } else if right_role.is_decl_name() {
         Break::Costs(u64::from(style.penalty_return_type_on_its_own_line))
-    } else if is_never_first(r) {
+    } else if is_never_first(right_role) {
         Break::Not
-    } else if is_never_last(l) {
+    } else if is_never_last(left_role) {
         Break::Not
     } else {
         by_cost_rows(style, left, right)

@@ -73,26 +73,26 @@ fn by_later_rows(style: &Style, left: &LineTok, right: &LineTok) -> u8
     ensures row { result ≡ first_row (later_rows style.now left.now right.now) 1 }
     ensures few { result ≤ 16 }
 {
-    let (l, r) = (left.role, right.role);
-    if r.is_ctrl_open() {
+    let (left_role, right_role) = (left.role, right.role);
+    if right_role.is_ctrl_open() {
         one_if(!is_never(style.space_before_parens))
-    } else if r.is_call_or_decl_open() {
+    } else if right_role.is_call_or_decl_open() {
         one_if(is_always(style.space_before_parens))
-    } else if is_attached(r) {
+    } else if is_attached(right_role) {
         0
-    } else if l.is_unary_or_prefix() {
+    } else if left_role.is_unary_or_prefix() {
         0
-    } else if l.is_member_or_desig_dot() || r.is_member() {
+    } else if left_role.is_member_or_desig_dot() || right_role.is_member() {
         0
-    } else if l.is_cast_close() {
+    } else if left_role.is_cast_close() {
         one_if(style.space_after_c_style_cast)
-    } else if l.is_pointer() && r.is_pointer() {
+    } else if left_role.is_pointer() && right_role.is_pointer() {
         0
-    } else if r.is_pointer() {
+    } else if right_role.is_pointer() {
         one_if(!is_left(style.pointer_alignment))
-    } else if l.is_pointer() {
+    } else if left_role.is_pointer() {
         one_if(!is_right(style.pointer_alignment))
-    } else if l.is_asm_colon() && r.is_asm_colon() {
+    } else if left_role.is_asm_colon() && right_role.is_asm_colon() {
         as_before(right)
     } else {
         1
@@ -105,22 +105,24 @@ fn by_table(style: &Style, left: &LineTok, right: &LineTok) -> u8
     ensures row { result ≡ spaces_by_table style.now left.now right.now }
     ensures few { result ≤ 16 }
 {
-    let (l, r) = (left.role, right.role);
-    if r.is_trailing() {
+    let (left_role, right_role) = (left.role, right.role);
+    if right_role.is_trailing() {
         if is_line_comment(right.kind) {
             style.spaces_before_trailing_comments as u8
         } else {
             1
         }
-    } else if r.is_comma_or_semi() {
+    } else if right_role.is_comma_or_semi() {
         0
-    } else if l.is_bracket_open() || r.is_bracket_close() {
+    } else if left_role.is_bracket_open() || right_role.is_bracket_close() {
         0
-    } else if (l.is_list_open() && r.is_list_close()) || (l.is_block_open() && r.is_block_close()) {
+    } else if (left_role.is_list_open() && right_role.is_list_close())
+        || (left_role.is_block_open() && right_role.is_block_close())
+    {
         0
-    } else if l.is_list_open() || r.is_list_close() {
+    } else if left_role.is_list_open() || right_role.is_list_close() {
         one_if(!style.cpp11_braced_list_style)
-    } else if l.is_inner_or_stray() || r.is_inner_or_stray() {
+    } else if left_role.is_inner_or_stray() || right_role.is_inner_or_stray() {
         as_before(right)
     } else {
         by_later_rows(style, left, right)
