@@ -54,8 +54,8 @@ fn spells(text: &Chars, left: &Chars, word: &[u8]) -> bool
     let mut rest = text.ahead();
     for byte in word {
         match rest.next() {
-            Some(c) => {
-                if c.byte != *byte {
+            Some(character) => {
+                if character.byte != *byte {
                     return false;
                 }
             }

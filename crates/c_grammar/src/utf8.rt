@@ -15,15 +15,15 @@ pub fn only_char(bytes: &[u8]) -> Option<char>
         return None;
     };
     let mut chars = text.chars();
-    let Some(c) = chars.next() else {
+    let Some(character) = chars.next() else {
         return None;
     };
-    if (c as u32) < 128 {
+    if (character as u32) < 128 {
         return None;
     }
     match chars.next() {
         Some(_) => None,
-        None => Some(c),
+        None => Some(character),
     }
 }
 

@@ -4,11 +4,11 @@ use Rattle.c_chars.proofs.Fronts.{none_first, other_first}
 use Rattle.c_grammar.proofs.Places.{spelled_yes, spelled_no, spelled_other, word_read}
 use Rattle.c_grammar.proofs.place.spells.Goals as goal
 
-pub returns-then-c-byte : goal.returns-then-c-byte
-returns-then-c-byte c = λ n i l.
+pub returns-then-character-byte : goal.returns-then-character-byte
+returns-then-character-byte c = λ n i l.
     spelled_other c.args.text.now c.args.word.now n
     (sym c.loop-byte.invariant.0
-    ∙ other_first c.args.word.now c.loop-byte.byte-index c.loop-byte-test.true c.loop-byte.rest.chars c.next.new.self.chars c.in-Some.c c.in-Some.ensures.some.0 c.if-c-byte.true)
+    ∙ other_first c.args.word.now c.loop-byte.byte-index c.loop-byte-test.true c.loop-byte.rest.chars c.next.new.self.chars c.in-Some.character c.in-Some.ensures.some.0 c.if-character-byte.true)
     i
 
 pub returns-in-None : goal.returns-in-None

@@ -11,17 +11,17 @@ pub returns-in_default-next : goal.returns-in_default-next
 returns-in_default-next c =
     no_first c.args.bytes.now (subst (λ z. None ≡ slice_get (chars z) 0) (c.chars-chars.ensures.rest ∙ c.in-Ok.ensures.cases.0) c.in_default-next.ensures.steps.2)
 
-pub returns-then-c-lt128 : goal.returns-then-c-lt128
-returns-then-c-lt128 c =
-    low_first c.args.bytes.now c.in-Some.c (subst (λ z. Some c.in-Some.c ≡ slice_get (chars z) 0) (c.chars-chars.ensures.rest ∙ c.in-Ok.ensures.cases.0) c.in-Some.ensures.steps.2) c.if-c-lt128.true
+pub returns-then-character-lt128 : goal.returns-then-character-lt128
+returns-then-character-lt128 c =
+    low_first c.args.bytes.now c.in-Some.character (subst (λ z. Some c.in-Some.character ≡ slice_get (chars z) 0) (c.chars-chars.ensures.rest ∙ c.in-Ok.ensures.cases.0) c.in-Some.ensures.steps.2) c.if-character-lt128.true
 
 pub returns-in-Some-next : goal.returns-in-Some-next
 returns-in-Some-next c =
     let same = c.chars-chars.ensures.rest ∙ c.in-Ok.ensures.cases.0 in
-    more_than_one c.args.bytes.now c.next.new.self.rest.now c.in-Some.c c.in-Some-next.field-0 c.in-Ok.ensures.cases.1 (sym same ∙ c.in-Some.ensures.steps.0)
-    (subst (λ z. Some c.in-Some.c ≡ slice_get (chars z) 0) same c.in-Some.ensures.steps.2) c.in-Some-next.ensures.steps.2
+    more_than_one c.args.bytes.now c.next.new.self.rest.now c.in-Some.character c.in-Some-next.field-0 c.in-Ok.ensures.cases.1 (sym same ∙ c.in-Some.ensures.steps.0)
+    (subst (λ z. Some c.in-Some.character ≡ slice_get (chars z) 0) same c.in-Some.ensures.steps.2) c.in-Some-next.ensures.steps.2
 
 pub returns-in-None : goal.returns-in-None
 returns-in-None c =
     let same = c.chars-chars.ensures.rest ∙ c.in-Ok.ensures.cases.0 in
-    one_there c.args.bytes.now c.next.new.self.rest.now c.in-Some.c c.in-Ok.ensures.cases.1 (sym same ∙ c.in-Some.ensures.steps.0) c.in-None.ensures.steps.0.0 c.if-c-lt128.false
+    one_there c.args.bytes.now c.next.new.self.rest.now c.in-Some.character c.in-Ok.ensures.cases.1 (sym same ∙ c.in-Some.ensures.steps.0) c.in-None.ensures.steps.0.0 c.if-character-lt128.false
