@@ -44,11 +44,11 @@ pub(crate) fn behind_block<'s>(text: &Chars<'s>) -> Option<Chars<'s>>
     let mut rest = text.ahead();
     let mut star = false;
     pass_within_block(&mut rest, star);
-    while let Some(c) = rest.next() {
-        if ends_block(star, c.byte) {
+    while let Some(character) = rest.next() {
+        if ends_block(star, character.byte) {
             return Some(rest);
         }
-        star = c.byte == b'*';
+        star = character.byte == b'*';
         pass_within_block(&mut rest, star);
     }
     None
@@ -77,9 +77,9 @@ pub(crate) fn behind_line<'s>(text: &Chars<'s>) -> Chars<'s>
     let mut last = b'/';
     pass_within_line(&mut rest, last);
     let mut kept = rest.ahead();
-    while let Some(c) = line::next_of_line(&mut rest) {
-        if !bytes::is_white(c.byte) {
-            last = c.byte;
+    while let Some(character) = line::next_of_line(&mut rest) {
+        if !bytes::is_white(character.byte) {
+            last = character.byte;
             pass_within_line(&mut rest, last);
             kept = rest.ahead();
         }

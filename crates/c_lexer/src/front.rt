@@ -14,9 +14,9 @@ use c_grammar::bytes;
 pub(crate) fn first_front(table: &[&[u8]], text: &Chars) -> usize
     ensures { result ≡ first_front (map (λ p. p.now) table.now) (bytes_of text.now.chars) }
 {
-    for p in table {
-        if begins_with(text, p) {
-            return p.len();
+    for entry in table {
+        if begins_with(text, entry) {
+            return entry.len();
         }
     }
     1
@@ -29,7 +29,7 @@ pub(crate) fn byte_at(text: &Chars, index: usize) -> u8
     ensures { result ≡ get_or (bytes_of text.now.chars) index 0 }
 {
     match text.peek(index) {
-        Some(c) => c.byte,
+        Some(character) => character.byte,
         None => 0,
     }
 }
@@ -53,7 +53,7 @@ pub(crate) fn begins_two(text: &Chars, first: u8, one: u8, two: u8) -> bool
         return false;
     }
     match text.peek(1) {
-        Some(c) => two == c.byte,
+        Some(character) => two == character.byte,
         None => false,
     }
 }

@@ -46,10 +46,10 @@ fn ends_in_backslash(chars: &Chars, left: &Chars) -> bool
     let mut ahead = chars.ahead();
     let mut back = false;
     while ahead.at() < left.at() {
-        let Some(c) = ahead.next() else {
+        let Some(character) = ahead.next() else {
             break;
         };
-        back = c.byte == b'\\';
+        back = character.byte == b'\\';
     }
     back
 }

@@ -23,14 +23,14 @@ pub(crate) fn next_of_line(chars: &mut Chars) -> Option<LogicalChar>
         (IsFalse (starts (λ c. not (is_new_line c)) (bytes_of chars.old.chars)) × (chars.new ≡ chars.old)) }
 {
     let mut ahead = chars.ahead();
-    let Some(c) = ahead.next() else {
+    let Some(character) = ahead.next() else {
         return None;
     };
-    if bytes::is_new_line(c.byte) {
+    if bytes::is_new_line(character.byte) {
         return None;
     }
     *chars = ahead;
-    Some(c)
+    Some(character)
 }
 
 /// The next character of the gap; none behind it, where it stays.
@@ -95,9 +95,9 @@ fn behind_any_gap<'s>(text: &Chars<'s>) -> Gap<'s>
     let mut rest = text.ahead();
     let mut lines = 0;
     let mut bytes = rest.pass_spaces();
-    while let Some(c) = next_blank(&mut rest) {
-        lines += lines_of(c.byte);
-        bytes += c.to - c.from;
+    while let Some(character) = next_blank(&mut rest) {
+        lines += lines_of(character.byte);
+        bytes += character.to - character.from;
         bytes += rest.pass_spaces();
     }
     Gap { lines, bytes, rest }

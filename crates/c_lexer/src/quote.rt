@@ -45,11 +45,11 @@ pub(crate) fn behind_quote<'s>(text: &Chars<'s>, quote: u8) -> (bool, Chars<'s>)
     let mut rest = text.ahead();
     let mut escaped = false;
     pass_within_quote(&mut rest, quote, escaped);
-    while let Some(c) = line::next_of_line(&mut rest) {
-        if stands_for(escaped, c.byte, quote) {
+    while let Some(character) = line::next_of_line(&mut rest) {
+        if stands_for(escaped, character.byte, quote) {
             return (true, rest);
         }
-        escaped = stands_for(escaped, c.byte, b'\\');
+        escaped = stands_for(escaped, character.byte, b'\\');
         pass_within_quote(&mut rest, quote, escaped);
     }
     (false, rest)
@@ -64,8 +64,8 @@ fn behind_name<'s>(text: &Chars<'s>, last: u8) -> Option<Chars<'s>>
 {
     let mut rest = text.ahead();
     let mut some = false;
-    while let Some(c) = line::next_of_line(&mut rest) {
-        if c.byte == last {
+    while let Some(character) = line::next_of_line(&mut rest) {
+        if character.byte == last {
             return if some { Some(rest) } else { None };
         }
         some = true;

@@ -69,7 +69,7 @@ pub(crate) fn begins_rare_word(text: &Chars) -> bool
         return true;
     }
     match utf8::next_char(text) {
-        Some((c, _)) => unicode_ident::is_xid_start(c),
+        Some((character, _)) => unicode_ident::is_xid_start(character),
         None => false,
     }
 }
@@ -88,10 +88,10 @@ fn behind_rare<'s>(text: &Chars<'s>) -> Option<Chars<'s>>
     if let Some(left) = behind_name(text) {
         return Some(left);
     }
-    let Some((c, left)) = utf8::next_char(text) else {
+    let Some((character, left)) = utf8::next_char(text) else {
         return None;
     };
-    if unicode_ident::is_xid_continue(c) {
+    if unicode_ident::is_xid_continue(character) {
         Some(left)
     } else {
         None
@@ -149,8 +149,8 @@ pub(crate) fn cut_plain_number<'s>(
     let mut left = begun.behind.ahead();
     left.pass_word();
     match left.peek_plain() {
-        Some(c) => {
-            if class::ends_number(c.byte) {
+        Some(character) => {
+            if class::ends_number(character.byte) {
                 Some((ItemKind::Number, left))
             } else {
                 None

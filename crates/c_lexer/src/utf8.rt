@@ -18,9 +18,9 @@ fn char_of(text: &Chars, len: usize) -> Option<char>
         (λ c. (len ≤ length text.now.chars) × IsTrue (is_wide (only c) (take len (bytes_of text.now.chars)))) }
 {
     let mut bytes: [u8; 4] = [0; 4];
-    for i in 0..len {
-        match text.peek(i) {
-            Some(c) => bytes[i] = c.byte,
+    for index in 0..len {
+        match text.peek(index) {
+            Some(character) => bytes[index] = character.byte,
             None => return None,
         }
     }
@@ -40,7 +40,7 @@ pub(crate) fn next_char<'s>(text: &Chars<'s>) -> Option<(char, Chars<'s>)>
     };
     let len = char_len(first.byte);
     match char_of(text, len) {
-        Some(c) => Some((c, front::behind(text, len))),
+        Some(character) => Some((character, front::behind(text, len))),
         None => None,
     }
 }

@@ -137,8 +137,8 @@ pub(crate) fn cut_plain_word<'s>(begun: &Begun<'s>) -> Option<(ItemKind, Chars<'
     let mut left = begun.behind.ahead();
     left.pass_word();
     match left.peek_plain() {
-        Some(c) => {
-            if class::ends_word(c.byte) {
+        Some(character) => {
+            if class::ends_word(character.byte) {
                 Some((ItemKind::Identifier, left))
             } else {
                 None

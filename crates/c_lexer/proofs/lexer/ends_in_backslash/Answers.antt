@@ -15,8 +15,8 @@ pub loop-ahead-preserved : goal.loop-ahead-preserved
 loop-ahead-preserved c =
     let some = c.in-Some.ensures.some in
     record {
-      spans = (one_on c.loop-ahead.ahead c.next.new.self c.in-Some.c some.0 some.1 c.loop-ahead.invariant.spans).spans;
-      walked = λ n within e. walk_step c.loop-ahead.ahead c.next.new.self c.args.left.now c.in-Some.c c.loop-ahead.back _ some.0 some.1 c.in-Some.ensures.dialect (omega (arith, c.loop-ahead-test.true, c.at.ensures, c.at-in-loop-ahead.ensures)) (c.loop-ahead.invariant.walked n within e);
+      spans = (one_on c.loop-ahead.ahead c.next.new.self c.in-Some.character some.0 some.1 c.loop-ahead.invariant.spans).spans;
+      walked = λ n within e. walk_step c.loop-ahead.ahead c.next.new.self c.args.left.now c.in-Some.character c.loop-ahead.back _ some.0 some.1 c.in-Some.ensures.dialect (omega (arith, c.loop-ahead-test.true, c.at.ensures, c.at-in-loop-ahead.ensures)) (c.loop-ahead.invariant.walked n within e);
     }
 
 pub returns-after-loop-ahead : goal.returns-after-loop-ahead

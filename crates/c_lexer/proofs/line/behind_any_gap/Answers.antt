@@ -9,8 +9,8 @@ use Rattle.c_lexer.proofs.Gaps.{lines_step, bytes_step, one_on, at_most_one, spa
 use Rattle.c_lexer.proofs.Passing.{prefix_next}
 use Rattle.c_lexer.proofs.line.behind_any_gap.Goals as goal
 
-pub loop-c-init : goal.loop-c-init
-loop-c-init c =
+pub loop-character-init : goal.loop-character-init
+loop-character-init c =
     let same = c.ahead-rest.ensures in
     let passed = c.pass_spaces-bytes.ensures.passed in
     let on = spaces_on c.ahead-rest.result c.pass_spaces-bytes.new.self c.pass_spaces-bytes.result passed (subst IsSpanned (sym same) c.requires) in
@@ -26,24 +26,24 @@ loop-c-init c =
       rest_is = sym on.rest ∙ ap (λ z. behind z (prefix_len (λ x. is_white x || is_new_line x) (bytes_of z.chars))) same;
     }
 
-pub loop-c-preserved : goal.loop-c-preserved
-loop-c-preserved c =
+pub loop-character-preserved : goal.loop-character-preserved
+loop-character-preserved c =
     let some = c.in-Some.ensures.some in
-    let next = one_on c.loop-c.rest c.next_blank.new.chars c.in-Some.c some.0 some.1 c.loop-c.invariant.spans in
+    let next = one_on c.loop-character.rest c.next_blank.new.chars c.in-Some.character some.0 some.1 c.loop-character.invariant.spans in
     let next_at = some.1 in
     let one = c.lines_of-lines.ensures in
-    let few = at_most_one (is_new_line c.in-Some.c.byte) in
-    let line = lines_step c.loop-c.rest c.next_blank.new.chars c.in-Some.c some.0 some.2 in
-    let byte = bytes_step c.loop-c.rest c.next_blank.new.chars c.in-Some.c some.0 some.2 in
+    let few = at_most_one (is_new_line c.in-Some.character.byte) in
+    let line = lines_step c.loop-character.rest c.next_blank.new.chars c.in-Some.character some.0 some.2 in
+    let byte = bytes_step c.loop-character.rest c.next_blank.new.chars c.in-Some.character some.0 some.2 in
     let passed = c.pass_spaces-bytes-in-Some.ensures.passed in
     let on = spaces_on c.next_blank.new.chars c.pass_spaces-bytes-in-Some.new.self c.pass_spaces-bytes-in-Some.result passed next.spans in
     let at_is = passed.at_is in
     record {
       spans = on.spans;
-      few_lines = omega (arith, one, few, at_is, next_at, next.later, next.some, c.loop-c.invariant.few_lines);
-      few_bytes = omega (arith, at_is, next_at, next.later, next.some, c.loop-c.invariant.few_bytes);
-      lines_are = omega (arith, one, line, on.lines, c.loop-c.invariant.lines_are);
-      bytes_are = omega (arith, byte, on.bytes, c.loop-c.invariant.bytes_are);
+      few_lines = omega (arith, one, few, at_is, next_at, next.later, next.some, c.loop-character.invariant.few_lines);
+      few_bytes = omega (arith, at_is, next_at, next.later, next.some, c.loop-character.invariant.few_bytes);
+      lines_are = omega (arith, one, line, on.lines, c.loop-character.invariant.lines_are);
+      bytes_are = omega (arith, byte, on.bytes, c.loop-character.invariant.bytes_are);
       rest_is = sym on.rest
-          ∙ (sym (prefix_next (λ x. is_white x || is_new_line x) c.loop-c.rest c.next_blank.new.chars c.in-Some.c some.0 some.1 c.next_blank.ensures.dialect some.2) ∙ c.loop-c.invariant.rest_is);
+          ∙ (sym (prefix_next (λ x. is_white x || is_new_line x) c.loop-character.rest c.next_blank.new.chars c.in-Some.character some.0 some.1 c.next_blank.ensures.dialect some.2) ∙ c.loop-character.invariant.rest_is);
     }

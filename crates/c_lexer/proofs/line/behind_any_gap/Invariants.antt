@@ -7,8 +7,8 @@ use Rattle.c_grammar.specs.Place.{IsSpanned}
 use Rattle.c_lexer.specs.Reading.{new_lines, bytes_in, first_gap}
 use Rattle.c_lexer.proofs.line.behind_any_gap.Given as goal
 
-abbrev pub invariant-loop-c : goal.invariant-loop-c
-invariant-loop-c l = record {
+abbrev pub invariant-loop-character : goal.invariant-loop-character
+invariant-loop-character l = record {
   spans : IsSpanned l.rest;
   few_lines : l.lines ≤ l.rest.at;
   few_bytes : l.bytes ≤ l.rest.at;
@@ -17,5 +17,5 @@ invariant-loop-c l = record {
   rest_is : behind l.rest (prefix_len (λ x. is_white x || is_new_line x) (bytes_of l.rest.chars)) ≡ behind l.text (prefix_len (λ x. is_white x || is_new_line x) (bytes_of l.text.chars));
 }
 
-abbrev pub decreases-loop-c : goal.decreases-loop-c
-decreases-loop-c l = length l.rest.chars
+abbrev pub decreases-loop-character : goal.decreases-loop-character
+decreases-loop-character l = length l.rest.chars

@@ -16,8 +16,8 @@ returns-in_default-next_char c = rare_neither is_xid_continue (bytes_of c.args.t
 
 pub returns-then-is_xid_continue : goal.returns-then-is_xid_continue
 returns-then-is_xid_continue c =
-    rare_of_wide is_xid_continue c.in-Some-next_char.c c.args.text.now c.in-Some-next_char.left (sym c.is_xid_continue.ensures.value ∙ c.if-is_xid_continue.true) c.in-Some-next_char.ensures
+    rare_of_wide is_xid_continue c.in-Some-next_char.character c.args.text.now c.in-Some-next_char.left (sym c.is_xid_continue.ensures.value ∙ c.if-is_xid_continue.true) c.in-Some-next_char.ensures
 
 pub returns-else-is_xid_continue : goal.returns-else-is_xid_continue
 returns-else-is_xid_continue c =
-    rare_refused is_xid_continue c.in-Some-next_char.c c.args.text.now c.in-Some-next_char.left c.in_default.ensures (sym c.is_xid_continue.ensures.value ∙ c.if-is_xid_continue.false) c.in-Some-next_char.ensures
+    rare_refused is_xid_continue c.in-Some-next_char.character c.args.text.now c.in-Some-next_char.left c.in_default.ensures (sym c.is_xid_continue.ensures.value ∙ c.if-is_xid_continue.false) c.in-Some-next_char.ensures
