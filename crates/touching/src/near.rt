@@ -155,20 +155,20 @@ pub fn near_touch(
     if left_raw.is_empty() || right_raw.is_empty() {
         return None;
     }
-    let (l, r) = (left_raw[0], right_raw[0]);
-    if !is_plain(l) {
+    let (left_first, right_first) = (left_raw[0], right_raw[0]);
+    if !is_plain(left_first) {
         return None;
     }
-    if !is_plain(r) {
+    if !is_plain(right_first) {
         return None;
     }
-    if word_by_quote(left, r)
-        || number_may_go_on(left, r)
-        || point_by_number(l, right)
+    if word_by_quote(left, right_first)
+        || number_may_go_on(left, right_first)
+        || point_by_number(left_first, right)
         || keeps_apart(left, right)
     {
         return None;
     }
-    let goes_on = punct_goes_on(dialect, left, left_raw, r)?;
-    Some(!(word_by_word(left, right, r) | goes_on))
+    let goes_on = punct_goes_on(dialect, left, left_raw, right_first)?;
+    Some(!(word_by_word(left, right, right_first) | goes_on))
 }

@@ -17,7 +17,7 @@ pub(crate) fn first_char(dialect: Dialect, raw: &[u8]) -> Option<u8>
     ensures { result ≡ slice_get (spelling dialect raw.now) 0 }
 {
     match Chars::new(raw, dialect).peek(0) {
-        Some(c) => Some(c.byte),
+        Some(character) => Some(character.byte),
         None => None,
     }
 }
@@ -38,10 +38,10 @@ pub(crate) fn is_spelled(dialect: Dialect, raw: &[u8], word: &[u8]) -> bool
     ensures { result ≡ is_same (spelling dialect raw.now) word.now }
 {
     let mut chars = Chars::new(raw, dialect);
-    for b in word {
+    for byte in word {
         match chars.next() {
-            Some(c) => {
-                if c.byte != *b {
+            Some(character) => {
+                if character.byte != *byte {
                     return false;
                 }
             }
@@ -69,7 +69,7 @@ fn follows(right: Option<u8>, byte: u8) -> bool
     ensures { result ≡ is_front (option_to_list right) (byte ∷ []) }
 {
     match right {
-        Some(e) => e == byte,
+        Some(character) => character == byte,
         None => true,
     }
 }
@@ -80,14 +80,14 @@ pub(crate) fn begins(dialect: Dialect, raw: &[u8], right: Option<u8>, word: &[u8
     ensures { result ≡ is_front (spelling dialect raw.now ++ option_to_list right) word.now }
 {
     let mut chars = Chars::new(raw, dialect);
-    for b in word {
+    for byte in word {
         match chars.next() {
-            Some(c) => {
-                if c.byte != *b {
+            Some(character) => {
+                if character.byte != *byte {
                     return false;
                 }
             }
-            None => return follows(right, *b),
+            None => return follows(right, *byte),
         }
     }
     is_done(&chars, right)
@@ -100,8 +100,8 @@ pub(crate) fn ends_in_exponent(dialect: Dialect, raw: &[u8]) -> bool
 {
     let mut chars = Chars::new(raw, dialect);
     let mut last = false;
-    while let Some(c) = chars.next() {
-        last = bytes::is_exponent(c.byte);
+    while let Some(character) = chars.next() {
+        last = bytes::is_exponent(character.byte);
     }
     last
 }

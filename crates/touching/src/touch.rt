@@ -28,24 +28,24 @@ fn begins_letter(dialect: Dialect, raw: &[u8]) -> bool
     ensures { result ≡ starts is_letter (spelling dialect raw.now) }
 {
     match first_char(dialect, raw) {
-        Some(c) => bytes::is_letter(c),
+        Some(first) => bytes::is_letter(first),
         None => false,
     }
 }
 
-fn is_one_of(byte: u8, cs: &[u8]) -> bool
-    ensures { result ≡ is_of cs.now byte }
+fn is_one_of(byte: u8, characters: &[u8]) -> bool
+    ensures { result ≡ is_of characters.now byte }
 {
-    cs.iter().any(|x| *x == byte)
+    characters.iter().any(|character| *character == byte)
 }
 
 /// Whether one of these characters comes first.
-fn begins_one_of(dialect: Dialect, raw: &[u8], cs: &[u8]) -> bool
+fn begins_one_of(dialect: Dialect, raw: &[u8], characters: &[u8]) -> bool
     requires { length raw.now ≤ LIMIT }
-    ensures { result ≡ starts (is_of cs.now) (spelling dialect raw.now) }
+    ensures { result ≡ starts (is_of characters.now) (spelling dialect raw.now) }
 {
     match first_char(dialect, raw) {
-        Some(c) => is_one_of(c, cs),
+        Some(first) => is_one_of(first, characters),
         None => false,
     }
 }
@@ -136,7 +136,7 @@ fn begins_with(first: u8, word: &[u8]) -> bool
     ensures { result ≡ starts (λ b. first == b) word.now }
 {
     match word {
-        [b, ..] => first == *b,
+        [byte, ..] => first == *byte,
         _ => false,
     }
 }

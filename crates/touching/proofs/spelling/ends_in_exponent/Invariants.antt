@@ -5,8 +5,8 @@ use Rattle.touching.specs.Spelling.{spelling}
 use Rattle.touching.proofs.Ends.{ends_after}
 use Rattle.touching.proofs.spelling.ends_in_exponent.Given as goal
 
-abbrev pub invariant-loop-c : goal.invariant-loop-c
-invariant-loop-c l = ends_after is_exponent l.last (bytes_of l.chars.chars) ≡ ends_after is_exponent false (spelling l.fn.dialect l.raw)
+abbrev pub invariant-loop-character : goal.invariant-loop-character
+invariant-loop-character l = ends_after is_exponent l.last (bytes_of l.chars.chars) ≡ ends_after is_exponent false (spelling l.fn.dialect l.raw)
 
-abbrev pub decreases-loop-c : goal.decreases-loop-c
-decreases-loop-c l = length l.chars.chars
+abbrev pub decreases-loop-character : goal.decreases-loop-character
+decreases-loop-character l = length l.chars.chars

@@ -4,5 +4,5 @@ use Rattle.c_grammar.specs.Grammar.{is_same}
 use Rattle.touching.specs.Spelling.{spelling}
 use Rattle.touching.proofs.spelling.is_spelled.Given as goal
 
-abbrev pub invariant-loop-b : goal.invariant-loop-b
-invariant-loop-b l = is_same (bytes_of l.chars.chars) (drop l.b-index l.word) ≡ is_same (spelling l.fn.dialect l.raw) l.word
+abbrev pub invariant-loop-byte : goal.invariant-loop-byte
+invariant-loop-byte l = is_same (bytes_of l.chars.chars) (drop l.byte-index l.word) ≡ is_same (spelling l.fn.dialect l.raw) l.word

@@ -5,7 +5,7 @@ use Rattle.touching.proofs.Firsts.{first_some, first_none}
 use Rattle.touching.proofs.touch.begins_one_of.Goals as goal
 
 pub returns-in-Some : goal.returns-in-Some
-returns-in-Some c = c.is_one_of.ensures ∙ sym (first_some (is_of c.args.cs.now) (spelling c.args.dialect c.args.raw.now) c.in-Some.c (sym c.first_char.ensures ∙ c.in-Some.is))
+returns-in-Some c = c.is_one_of.ensures ∙ sym (first_some (is_of c.args.characters.now) (spelling c.args.dialect c.args.raw.now) c.in-Some.first (sym c.first_char.ensures ∙ c.in-Some.is))
 
 pub returns-in-None : goal.returns-in-None
-returns-in-None c = sym (first_none (is_of c.args.cs.now) (spelling c.args.dialect c.args.raw.now) (sym c.first_char.ensures ∙ c.in-None.is))
+returns-in-None c = sym (first_none (is_of c.args.characters.now) (spelling c.args.dialect c.args.raw.now) (sym c.first_char.ensures ∙ c.in-None.is))
