@@ -23,7 +23,7 @@ use std::collections::VecDeque;
 fn without(table: &mut Vec<Macro>, name: &[u8])
     ensures { map macro_shown table.new.items ≡ without name.now (map macro_shown table.old.items) }
 {
-    table.retain(|m| m.name.as_slice() != name);
+    table.retain(|entry| entry.name.as_slice() != name);
 }
 
 impl World {
@@ -57,8 +57,8 @@ impl World {
     {
         match define_of(alloc, function_like, tokens)? {
             None => self.malformed(alloc),
-            Some(m) => {
-                self.table.insert(0, m)?;
+            Some(defined) => {
+                self.table.insert(0, defined)?;
                 Ok(())
             }
         }

@@ -55,7 +55,7 @@ fn is_paste_next(rest: &VecDeque<Tok>) -> bool
     ensures { result ≡ paste_next (map tok_shown rest.now.items) }
 {
     match rest.front() {
-        Some(t) => is_paste(t),
+        Some(token) => is_paste(token),
         None => false,
     }
 }
@@ -90,11 +90,11 @@ fn stand_of(beside: bool, parameter: Option<usize>) -> Stand
 {
     match parameter {
         None => Stand::Itself,
-        Some(i) => {
+        Some(index) => {
             if beside {
-                Stand::Written(i)
+                Stand::Written(index)
             } else {
-                Stand::Full(i)
+                Stand::Full(index)
             }
         }
     }
@@ -146,8 +146,8 @@ fn next_of(
     match before {
         Before::Hash { glue, white } => match param_of(names, token) {
             None => Next::Malformed,
-            Some(i) => {
-                let stand = Stand::Quoted(i);
+            Some(index) => {
+                let stand = Stand::Quoted(index);
                 Next::Part { stand, white, glue }
             }
         },
@@ -163,9 +163,9 @@ fn what_of(stand: Stand, token: Tok) -> What
 {
     match stand {
         Stand::Itself => What::Word(token),
-        Stand::Full(i) => What::Full(i),
-        Stand::Written(i) => What::Written(i),
-        Stand::Quoted(i) => What::Quoted(i),
+        Stand::Full(index) => What::Full(index),
+        Stand::Written(index) => What::Written(index),
+        Stand::Quoted(index) => What::Quoted(index),
     }
 }
 
@@ -216,11 +216,11 @@ pub fn parts_of_body(
     let mut parts = Vec::new(alloc);
     let mut before = Before::Nothing;
     let mut rest = body;
-    while let Some(t) = rest.pop_front() {
-        let next = next_of(names, function_like, before, &t, is_paste_next(&rest));
-        match add_token(&mut parts, next, t)? {
+    while let Some(token) = rest.pop_front() {
+        let next = next_of(names, function_like, before, &token, is_paste_next(&rest));
+        match add_token(&mut parts, next, token)? {
             None => return Ok(None),
-            Some(b) => before = b,
+            Some(last) => before = last,
         }
     }
     Ok(ended_parts(parts, before))

@@ -37,7 +37,7 @@ impl Conditionals {
     {
         match self.open.front() {
             None => true,
-            Some(c) => c.active,
+            Some(conditional) => conditional.active,
         }
     }
 
@@ -49,7 +49,7 @@ impl Conditionals {
     {
         match self.open.front() {
             None => None,
-            Some(c) => Some(*c),
+            Some(conditional) => Some(*conditional),
         }
     }
 

@@ -165,20 +165,20 @@ impl World {
                 self.malformed(alloc)?;
                 Ok(None)
             }
-            Some(c) => {
-                if c.had_else {
-                    self.blame(alloc, c.skipped)?;
+            Some(conditional) => {
+                if conditional.had_else {
+                    self.blame(alloc, conditional.skipped)?;
                     Ok(None)
-                } else if c.taken {
+                } else if conditional.taken {
                     self.conds.replace(Cond {
                         taken: true,
                         active: false,
-                        had_else: c.had_else,
-                        skipped: c.skipped,
+                        had_else: conditional.had_else,
+                        skipped: conditional.skipped,
                     })?;
                     Ok(None)
                 } else {
-                    Ok(Some(c))
+                    Ok(Some(conditional))
                 }
             }
         }
@@ -198,9 +198,9 @@ impl World {
             test (R.kinds reader.now) (holds_in (map condition_shown conditions.now)) (entered c cs)
             (map tok_shown tokens.items)) (conds_shown self.old.conds) (world_shown self.old)) }
     {
-        if let Some(c) = self.next_asked(alloc)? {
+        if let Some(conditional) = self.next_asked(alloc)? {
             if let Some(holds) = self.test(alloc, reader, conditions, tokens)? {
-                self.enter(c, holds)?;
+                self.enter(conditional, holds)?;
             }
         }
         Ok(())
@@ -218,9 +218,9 @@ impl World {
             ≡ branch (λ c cs. asked sense (entered c cs) (map tok_shown tokens.items)) (conds_shown self.old.conds)
             (world_shown self.old)) }
     {
-        if let Some(c) = self.next_asked(alloc)? {
+        if let Some(conditional) = self.next_asked(alloc)? {
             let holds = self.asked(alloc, sense, &tokens)?;
-            self.enter(c, holds)?;
+            self.enter(conditional, holds)?;
         }
         Ok(())
     }
@@ -233,16 +233,16 @@ impl World {
     {
         match self.conds.innermost() {
             None => self.malformed(alloc),
-            Some(c) => {
-                if c.had_else {
-                    self.blame(alloc, c.skipped)?;
+            Some(conditional) => {
+                if conditional.had_else {
+                    self.blame(alloc, conditional.skipped)?;
                     Ok(())
                 } else {
                     self.conds.replace(Cond {
                         taken: true,
-                        active: !c.taken,
+                        active: !conditional.taken,
                         had_else: true,
-                        skipped: c.skipped,
+                        skipped: conditional.skipped,
                     })
                 }
             }
@@ -279,15 +279,16 @@ impl World {
 /// A malformed more for each open conditional that isn't in a skipped group.
 fn blame_open(
     alloc: Global,
-    conds: &Conditionals,
+    conditionals: &Conditionals,
     events: &mut Vec<Event>,
 ) -> Result<(), AllocError>
     ensures { IfOk result (λ _.
-        map event_shown events.new.items ≡ map event_shown events.old.items ++ left_open (conds_shown conds.now)) }
+        map event_shown events.new.items
+        ≡ map event_shown events.old.items ++ left_open (conds_shown conditionals.now)) }
 {
-    let open = &conds.open;
-    for i in 0..open.len() {
-        if !open[i].skipped {
+    let open = &conditionals.open;
+    for index in 0..open.len() {
+        if !open[index].skipped {
             events.push(Event::Malformed(Vec::new(alloc)))?;
         }
     }

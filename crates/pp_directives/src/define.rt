@@ -49,21 +49,21 @@ pub fn macro_of(
 fn function_of(
     alloc: Global,
     name: &[u8],
-    params: Vec<Vec<u8>>,
+    parameters: Vec<Vec<u8>>,
     variadic: bool,
     body: VecDeque<Tok>,
 ) -> Result<Option<Macro>, AllocError>
     ensures { IfOk result (λ r.
         some_macro r
         ≡ function_of name.now (record
-        { names = map (λ n. n.items) params.items; variadic = variadic; body = map tok_shown body.items })) }
+        { names = map (λ n. n.items) parameters.items; variadic = variadic; body = map tok_shown body.items })) }
 {
     let form = Form {
         function_like: true,
-        arity: params.len(),
+        arity: parameters.len(),
         variadic,
     };
-    let mut names = params;
+    let mut names = parameters;
     add_variadic(alloc, &mut names, variadic)?;
     macro_of(alloc, name, form, names.as_slice(), body)
 }
@@ -78,10 +78,10 @@ fn after_paren(
 {
     let mut rest = tokens;
     let _ = rest.pop_front();
-    let mut params = Vec::new(alloc);
-    match read_params(alloc, &mut params, &mut rest)? {
+    let mut parameters = Vec::new(alloc);
+    match read_params(alloc, &mut parameters, &mut rest)? {
         None => Ok(None),
-        Some(variadic) => function_of(alloc, name, params, variadic, rest),
+        Some(variadic) => function_of(alloc, name, parameters, variadic, rest),
     }
 }
 
@@ -96,9 +96,9 @@ pub fn define_of(
     let mut rest = tokens;
     match rest.pop_front() {
         None => Ok(None),
-        Some(t) => {
-            let name = spelling_of(&t.token);
-            if !may_be_defined(&t) {
+        Some(token) => {
+            let name = spelling_of(&token.token);
+            if !may_be_defined(&token) {
                 Ok(None)
             } else if function_like {
                 after_paren(alloc, name, rest)

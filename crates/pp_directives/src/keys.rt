@@ -16,11 +16,11 @@ pub fn is_key_of(key: &[PpToken], tokens: &[Tok]) -> bool
     ensures { result ≡ list_eq (map erase (map shown key.now)) (key_of (map tok_shown tokens.now)) }
 {
     let mut rest = tokens;
-    for k in key {
+    for expected in key {
         match rest {
             [] => return false,
             [first, others @ ..] => {
-                if !is_same_token(k, &first.token) {
+                if !is_same_token(expected, &first.token) {
                     return false;
                 }
                 rest = others;
@@ -35,9 +35,9 @@ pub fn find_text<'s>(includes: &'s [IncludeText], tokens: &[Tok]) -> Option<&'s 
     ensures { option_map (λ b. b.now) result
         ≡ find_text (map text_shown includes.now) (key_of (map tok_shown tokens.now)) }
 {
-    for i in includes {
-        if is_key_of(i.key.as_slice(), tokens) {
-            return Some(i.bytes.as_slice());
+    for include in includes {
+        if is_key_of(include.key.as_slice(), tokens) {
+            return Some(include.bytes.as_slice());
         }
     }
     None
@@ -47,9 +47,9 @@ pub fn find_text<'s>(includes: &'s [IncludeText], tokens: &[Tok]) -> Option<&'s 
 pub fn holds_in(conditions: &[Condition], tokens: &[Tok]) -> bool
     ensures { result ≡ holds_in (map condition_shown conditions.now) (key_of (map tok_shown tokens.now)) }
 {
-    for c in conditions {
-        if is_key_of(c.key.as_slice(), tokens) {
-            return c.holds;
+    for condition in conditions {
+        if is_key_of(condition.key.as_slice(), tokens) {
+            return condition.holds;
         }
     }
     false

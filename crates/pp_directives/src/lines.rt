@@ -46,11 +46,11 @@ fn digits_value(text: &[u8]) -> Option<u32>
     ensures { result ≡ digits_value text.now }
 {
     let mut number: u64 = 0;
-    for c in text {
-        if !c.is_ascii_digit() {
+    for byte in text {
+        if !byte.is_ascii_digit() {
             return None;
         }
-        number = 10 * number + u64::from(*c - b'0');
+        number = 10 * number + u64::from(*byte - b'0');
         if number > MAX_LINE {
             return None;
         }

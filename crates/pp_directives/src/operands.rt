@@ -15,9 +15,9 @@ fn only_kind(tokens: &VecDeque<Tok>) -> Option<ItemKind>
 {
     match tokens.front() {
         None => None,
-        Some(t) => {
+        Some(token) => {
             if tokens.len() == 1 {
-                Some(t.kind)
+                Some(token.kind)
             } else {
                 None
             }

@@ -117,15 +117,15 @@ pub fn read_params(
         ≡ params_of (map (λ n. n.items) names.old.items) AfterOpen (map tok_shown rest.old.items)) }
 {
     let mut place = Place::AfterOpen;
-    while let Some(t) = rest.front() {
-        match what_is_listed(place, names.as_slice(), t) {
+    while let Some(token) = rest.front() {
+        match what_is_listed(place, names.as_slice(), token) {
             Listed::End => {
                 let _ = rest.pop_front();
                 return Ok(Some(place.is_after_dots()));
             }
             Listed::Mark(next) => place = next,
             Listed::Name => {
-                add_name(alloc, names, spelling_of(&t.token))?;
+                add_name(alloc, names, spelling_of(&token.token))?;
                 place = Place::AfterName;
             }
             Listed::Malformed => return Ok(None),
@@ -157,9 +157,9 @@ pub fn add_variadic(
 fn index_of(names: &[Vec<u8>], name: &[u8]) -> Option<usize>
     ensures { result ≡ index_of name.now (map (λ n. n.items) names.now) }
 {
-    for (i, n) in names.iter().enumerate() {
-        if name == n.as_slice() {
-            return Some(i);
+    for (index, parameter) in names.iter().enumerate() {
+        if name == parameter.as_slice() {
+            return Some(index);
         }
     }
     None

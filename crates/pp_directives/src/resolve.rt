@@ -41,9 +41,9 @@ pub fn front_defined(table: &[Macro], tokens: &VecDeque<Tok>) -> Option<bool>
 {
     match tokens.front() {
         None => None,
-        Some(t) => {
-            if is_name(t) {
-                Some(is_defined(table, t))
+        Some(token) => {
+            if is_name(token) {
+                Some(is_defined(table, token))
             } else {
                 None
             }
@@ -168,8 +168,8 @@ pub fn resolve(
     let mut out = Vec::new(alloc);
     let mut held = Vec::new(alloc);
     let mut rest = tokens;
-    while let Some(t) = rest.pop_front() {
-        read_token(alloc, table, &mut out, &mut held, t)?;
+    while let Some(token) = rest.pop_front() {
+        read_token(alloc, table, &mut out, &mut held, token)?;
     }
     out.append(&mut held)?;
     Ok(VecDeque::from_vec(out))

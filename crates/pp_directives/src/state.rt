@@ -37,8 +37,8 @@ pub fn spelled(alloc: Global, tokens: VecDeque<Tok>) -> Result<Vec<PpToken>, All
 {
     let mut out = Vec::new(alloc);
     let mut rest = tokens;
-    while let Some(t) = rest.pop_front() {
-        out.push(t.token)?;
+    while let Some(token) = rest.pop_front() {
+        out.push(token.token)?;
     }
     Ok(out)
 }
@@ -145,8 +145,8 @@ fn token_events(tokens: Vec<Tok>, events: &mut Vec<Event>) -> Result<(), AllocEr
         map event_shown events.new.items
         ≡ map event_shown events.old.items ++ token_events (map tok_shown tokens.items)) }
 {
-    for t in tokens {
-        events.push(Event::Token(t.token))?;
+    for token in tokens {
+        events.push(Event::Token(token.token))?;
     }
     Ok(())
 }

@@ -54,8 +54,8 @@ fn toks_by<R: Spellings>(
         (λ r. map tok_shown r.items ≡ map (tok_by (R.kinds reader.now)) (map body_token_shown body.now)) }
 {
     let mut out = VecDeque::new(alloc);
-    for t in body {
-        out.push_back(tok_by(alloc, reader, t)?)?;
+    for token in body {
+        out.push_back(tok_by(alloc, reader, token)?)?;
     }
     Ok(out)
 }
@@ -139,9 +139,9 @@ pub fn table_by<R: Spellings>(
         (λ r. map macro_shown r.items ≡ table_by (R.kinds reader.now) (map definition_shown definitions.now)) }
 {
     let mut table = Vec::new(alloc);
-    for d in definitions {
-        if let Some(m) = macro_by(alloc, reader, d)? {
-            table.push(m)?;
+    for definition in definitions {
+        if let Some(defined) = macro_by(alloc, reader, definition)? {
+            table.push(defined)?;
         }
     }
     Ok(table)

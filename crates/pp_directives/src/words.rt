@@ -53,9 +53,9 @@ pub fn front_name(tokens: &VecDeque<Tok>) -> Option<&[u8]>
 {
     match tokens.front() {
         None => None,
-        Some(t) => {
-            if may_be_defined(t) {
-                Some(spelling_of(&t.token))
+        Some(token) => {
+            if may_be_defined(token) {
+                Some(spelling_of(&token.token))
             } else {
                 None
             }

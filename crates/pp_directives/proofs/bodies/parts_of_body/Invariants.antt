@@ -5,10 +5,10 @@ use Rattle.pp_directives.specs.Body.{behind}
 use Rattle.pp_directives.specs.DefineView.{before_shown}
 use Rattle.pp_directives.proofs.bodies.parts_of_body.Given as goal
 
-abbrev pub invariant-loop-t : goal.invariant-loop-t
-invariant-loop-t l =
+abbrev pub invariant-loop-token : goal.invariant-loop-token
+invariant-loop-token l =
     behind (map part_shown l.parts.items) (parts_of_body (map (λ n. n.items) l.names) l.function_like (before_shown l.before) (map tok_shown l.rest.items))
     ≡ parts_of_body (map (λ n. n.items) l.names) l.function_like Nothing (map tok_shown l.fn.body.items)
 
-abbrev pub decreases-loop-t : goal.decreases-loop-t
-decreases-loop-t l = length l.rest.items
+abbrev pub decreases-loop-token : goal.decreases-loop-token
+decreases-loop-token l = length l.rest.items

@@ -4,6 +4,6 @@ use Rattle.pp_directives.specs.CondView.{cond_shown}
 use Rattle.pp_directives.specs.WorldView.{event_shown}
 use Rattle.pp_directives.proofs.conditions.blame_open.Given as goal
 
-abbrev pub invariant-loop-i : goal.invariant-loop-i
-invariant-loop-i l =
-    map event_shown l.events.items ++ left_open (map cond_shown (drop l.i l.open.items)) ≡ map event_shown l.fn.events.items ++ left_open (map cond_shown l.open.items)
+abbrev pub invariant-loop-index : goal.invariant-loop-index
+invariant-loop-index l =
+    map event_shown l.events.items ++ left_open (map cond_shown (drop l.index l.open.items)) ≡ map event_shown l.fn.events.items ++ left_open (map cond_shown l.open.items)

@@ -5,6 +5,6 @@ use Rattle.pp_events.specs.View.{tok_shown}
 use Rattle.pp_directives.specs.SettingView.{condition_shown}
 use Rattle.pp_directives.proofs.keys.holds_in.Given as goal
 
-abbrev pub invariant-loop-c : goal.invariant-loop-c
-invariant-loop-c l =
-    holds_in (map condition_shown (drop l.c-index l.conditions)) (key_of (map tok_shown l.tokens)) ≡ holds_in (map condition_shown l.conditions) (key_of (map tok_shown l.tokens))
+abbrev pub invariant-loop-condition : goal.invariant-loop-condition
+invariant-loop-condition l =
+    holds_in (map condition_shown (drop l.condition-index l.conditions)) (key_of (map tok_shown l.tokens)) ≡ holds_in (map condition_shown l.conditions) (key_of (map tok_shown l.tokens))

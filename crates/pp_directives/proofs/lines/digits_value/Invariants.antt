@@ -3,5 +3,5 @@ use Rattle.pp_directives.proofs.LineNumbers.{value_from}
 use Rattle.pp_directives.specs.LineNumber.{digits_value}
 use Rattle.pp_directives.proofs.lines.digits_value.Given as goal
 
-abbrev pub invariant-loop-c : goal.invariant-loop-c
-invariant-loop-c l = record { same : value_from l.number (drop l.c-index l.text) ≡ digits_value l.text; small : l.number ≤ 2147483647 }
+abbrev pub invariant-loop-byte : goal.invariant-loop-byte
+invariant-loop-byte l = record { same : value_from l.number (drop l.byte-index l.text) ≡ digits_value l.text; small : l.number ≤ 2147483647 }

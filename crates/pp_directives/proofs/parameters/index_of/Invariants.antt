@@ -3,5 +3,5 @@ use Rattle.pp_model.specs.Define.{index_of}
 use Rattle.pp_directives.proofs.Indices.{index_from}
 use Rattle.pp_directives.proofs.parameters.index_of.Given as goal
 
-abbrev pub invariant-loop-i : goal.invariant-loop-i
-invariant-loop-i l = index_from l.i l.name (map (λ n. n.items) (drop l.i l.names)) ≡ index_of l.name (map (λ n. n.items) l.names)
+abbrev pub invariant-loop-index : goal.invariant-loop-index
+invariant-loop-index l = index_from l.index l.name (map (λ n. n.items) (drop l.index l.names)) ≡ index_of l.name (map (λ n. n.items) l.names)

@@ -4,5 +4,5 @@ use Rattle.pp_events.specs.View.{tok_shown}
 use Rattle.pp_directives.specs.WorldView.{event_shown}
 use Rattle.pp_directives.proofs.state.token_events.Given as goal
 
-abbrev pub invariant-loop-t : goal.invariant-loop-t
-invariant-loop-t l = map event_shown l.events.items ≡ map event_shown l.initial.events.items ++ token_events (map tok_shown l.yielded)
+abbrev pub invariant-loop-token : goal.invariant-loop-token
+invariant-loop-token l = map event_shown l.events.items ≡ map event_shown l.initial.events.items ++ token_events (map tok_shown l.yielded)

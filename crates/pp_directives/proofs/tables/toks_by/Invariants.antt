@@ -4,5 +4,5 @@ use Rattle.pp_events.specs.View.{tok_shown}
 use Rattle.pp_directives.specs.SettingView.{body_token_shown}
 use Rattle.pp_directives.proofs.tables.toks_by.Given as goal
 
-abbrev pub invariant-loop-t : goal.invariant-loop-t
-invariant-loop-t g l = map tok_shown l.out.items ≡ map (tok_by (g.R.Spellings.kinds l.reader)) (map body_token_shown (take l.t-index l.body))
+abbrev pub invariant-loop-token : goal.invariant-loop-token
+invariant-loop-token g l = map tok_shown l.out.items ≡ map (tok_by (g.R.Spellings.kinds l.reader)) (map body_token_shown (take l.token-index l.body))
