@@ -24,9 +24,9 @@ fn mark_topmost(stack: &[Opener], braces: usize, marks: &mut [bool]) -> bool
     ensures marks { marks.new ≡ marked (reverse stack.now) marks.old }
     ensures none { result ≡ false → marks.new ≡ marks.old }
 {
-    if let Some(o) = stack.last() {
-        if o.kind.is_open_brace() && braces < stack.len() {
-            marks[o.place as usize] = true;
+    if let Some(opener) = stack.last() {
+        if opener.kind.is_open_brace() && braces < stack.len() {
+            marks[opener.place as usize] = true;
             return true;
         }
     }
@@ -90,11 +90,11 @@ fn spread(marks: &mut [bool], partners: &[Partner])
     ensures { marks.new ≡ map (is_inside marks.old partners.now) (range_with_len 0 (length marks.old)) }
 {
     let mut end: usize = 0;
-    for (i, mark) in marks.iter_mut().enumerate() {
+    for (place, mark) in marks.iter_mut().enumerate() {
         let is_brace = *mark;
-        *mark = i < end;
+        *mark = place < end;
         if is_brace {
-            if let Some(partner) = partners[i].place() {
+            if let Some(partner) = partners[place].place() {
                 end = end.max(partner as usize + 1);
             }
         }

@@ -35,10 +35,10 @@ fn take_brace(stack: &mut Vec<Opener, &Bump>, braces: &mut usize) -> Option<u32>
     if *braces == 0 {
         return None;
     }
-    while let Some(o) = stack.pop() {
-        if o.kind == TokenClass::OpenBrace {
+    while let Some(opener) = stack.pop() {
+        if opener.kind == TokenClass::OpenBrace {
             *braces -= 1;
-            return Some(o.place);
+            return Some(opener.place);
         }
     }
     None
@@ -54,9 +54,9 @@ fn take_square(stack: &mut Vec<Opener, &Bump>) -> Option<u32>
     ensures count { count_braces (reverse stack.new.items) ≡ count_braces (reverse stack.old.items) }
 {
     match stack.last() {
-        Some(o) => {
-            if o.kind == TokenClass::OpenSquare {
-                let place = o.place;
+        Some(opener) => {
+            if opener.kind == TokenClass::OpenSquare {
+                let place = opener.place;
                 let _ = stack.pop();
                 Some(place)
             } else {
@@ -77,9 +77,9 @@ fn take_round(stack: &mut Vec<Opener, &Bump>) -> Option<u32>
     ensures count { count_braces (reverse stack.new.items) ≡ count_braces (reverse stack.old.items) }
 {
     match stack.last() {
-        Some(o) => {
-            if o.kind == TokenClass::OpenRound {
-                let place = o.place;
+        Some(opener) => {
+            if opener.kind == TokenClass::OpenRound {
+                let place = opener.place;
                 let _ = stack.pop();
                 Some(place)
             } else {
@@ -123,8 +123,8 @@ pub(crate) fn close(partners: &mut [Partner], opened: Option<u32>, place: u32)
     requires closer { place < length partners.old }
     ensures { partners.new ≡ paired partners.old opened place }
 {
-    if let Some(p) = opened {
-        match_up(partners, p, place);
+    if let Some(opener) = opened {
+        match_up(partners, opener, place);
     }
 }
 

@@ -37,7 +37,7 @@ fn has_small_in_eight(eight: u8x8) -> bool
 fn has_small_in_few(spelled: &[u8]) -> bool
     ensures { result ≡ list_any is_ascii_lowercase spelled.now }
 {
-    spelled.iter().any(|b| b.is_ascii_lowercase())
+    spelled.iter().any(|byte| byte.is_ascii_lowercase())
 }
 
 /// Whether it has a small letter. The first eight characters are looked at at once.
