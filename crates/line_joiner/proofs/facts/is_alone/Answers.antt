@@ -9,4 +9,4 @@ returns-else-places c =
     let places = c.places_of-places.result in
     let told = c.places_of-places.ensures in
     c.all_comments.ensures
-    ∙ (some_alone c.args.toks.now no_token places.first places.end (omega (arith, told.order, c.if-places.false)) told.within ∙ ap is_alone told.row)
+    ∙ (some_alone c.args.tokens.now no_token places.first places.end (omega (arith, told.order, c.if-places.false)) told.within ∙ ap is_alone told.row)

@@ -4,4 +4,4 @@ use Rattle.line_joiner.specs.Facts.{first_role}
 use Rattle.line_joiner.proofs.facts.last_among.Given as goal
 
 abbrev pub invariant-loop-at : goal.invariant-loop-at
-invariant-loop-at l = first_role (reverse (slice_range l.toks l.first l.at)) ≡ first_role (reverse (slice_range l.toks l.first l.end))
+invariant-loop-at l = first_role (reverse (slice_range l.tokens l.first l.at)) ≡ first_role (reverse (slice_range l.tokens l.first l.end))

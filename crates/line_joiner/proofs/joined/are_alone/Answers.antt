@@ -6,30 +6,30 @@ use Rattle.line_joiner.specs.JoinTable.{lines_by_table}
 use Rattle.line_joiner.proofs.Alone.{one_more_alone, stay_alone, stays_alone}
 use Rattle.line_joiner.proofs.joined.are_alone.Goals as goal
 
-pub loop-i-preserved-then-not-is_head : goal.loop-i-preserved-then-not-is_head
-loop-i-preserved-then-not-is_head c =
+pub loop-index-preserved-then-not-is_head : goal.loop-index-preserved-then-not-is_head
+loop-index-preserved-then-not-is_head c =
     let blank : ULine = record { first = 0; last = 0; level = 0; kind = Simple } in
     let style = c.args.style.now in
     let classes = c.args.classes.now in
-    let toks = c.args.toks.now in
+    let toks = c.args.tokens.now in
     let lines = c.args.lines.now in
-    let i = c.loop-i.i in
+    let i = c.loop-index.index in
     let alone = sym (c.is_head.ensures style c.heads_of-heads.ensures) ∙ c.if-not-is_head.true in
-    one_more_alone style classes toks lines i blank c.loop-i-test.true (omega (arith, stays_alone style classes toks (get_or lines i blank) (drop (suc i) lines) alone)) c.loop-i.invariant
+    one_more_alone style classes toks lines i blank c.loop-index-test.true (omega (arith, stays_alone style classes toks (get_or lines i blank) (drop (suc i) lines) alone)) c.loop-index.invariant
 
-pub loop-i-preserved : goal.loop-i-preserved
-loop-i-preserved c =
+pub loop-index-preserved : goal.loop-index-preserved
+loop-index-preserved c =
     let blank : ULine = record { first = 0; last = 0; level = 0; kind = Simple } in
     let style = c.args.style.now in
     let classes = c.args.classes.now in
-    let toks = c.args.toks.now in
+    let toks = c.args.tokens.now in
     let lines = c.args.lines.now in
-    let i = c.loop-i.i in
+    let i = c.loop-index.index in
     let next : i + 1 ≡ suc i = omega arith in
     let rest : take (length lines - (i + 1)) (drop (i + 1) lines) ≡ drop (suc i) lines = take_all (length lines - (i + 1)) (drop (i + 1) lines) (omega (arith, length-drop (i + 1) lines)) ∙ ap (λ n. drop n lines) next in
     let told : c.lines_by_table.result ≡ lines_by_table style classes toks (get_or lines i blank) (drop (suc i) lines) = c.lines_by_table.ensures ∙ ap (λ (ls : List ULine). lines_by_table style classes toks (get_or lines i blank) ls) rest in
-    one_more_alone style classes toks lines i blank c.loop-i-test.true (omega (arith, told, c.if-lines_by_table-gt1.false)) c.loop-i.invariant
+    one_more_alone style classes toks lines i blank c.loop-index-test.true (omega (arith, told, c.if-lines_by_table-gt1.false)) c.loop-index.invariant
 
 pub returns : goal.returns
 returns c = λ told fixed.
-    stay_alone c.args.style.now c.args.classes.now c.args.toks.now fixed c.args.lines.now (λ i d within. c.loop-i.invariant i d (omega (arith, within, c.loop-i-test.false)))
+    stay_alone c.args.style.now c.args.classes.now c.args.tokens.now fixed c.args.lines.now (λ i d within. c.loop-index.invariant i d (omega (arith, within, c.loop-index-test.false)))

@@ -14,7 +14,7 @@ off true true true false e is = refl
 
 pub returns-then-not-style : goal.returns-then-not-style
 returns-then-not-style c =
-    let toks = c.args.toks.now in
+    let toks = c.args.tokens.now in
     let head = c.args.head.now in
     let rest = c.args.rest.now in
     off (is_control head.kind) (is_loop (word_of c.args.classes.now head)) (is_bare_header toks head) (begins_with_simple rest) c.args.style.now.allow_short_loops_on_a_single_line c.if-not-style.true
