@@ -42,18 +42,18 @@ fn token_at(tokens: &[LineTok], at: usize) -> &LineTok
 }
 
 /// Whether the gap before a trailing comment is open.
-fn has_open_comment(plan: &Plan<'_>, toks: &ViewTokens<'_>) -> bool
-    requires { All (λ token. token.id.0 < length plan.now) toks.now }
+fn has_open_comment(plan: &Plan<'_>, tokens: &ViewTokens<'_>) -> bool
+    requires { All (λ token. token.id.0 < length plan.now) tokens.now }
     ensures { OnFalse result
-        (All (λ token. is_trailing token.role ≡ true → IsSome (slot_of plan.now token.id.0)) toks.now) }
+        (All (λ token. is_trailing token.role ≡ true → IsSome (slot_of plan.now token.id.0)) tokens.now) }
 {
     let mut segment = 0;
-    let mut at = next_trailing(toks, 0);
-    while at < toks.len() {
-        if !plan.is_decided(toks.id(at, &mut segment)) {
+    let mut at = next_trailing(tokens, 0);
+    while at < tokens.len() {
+        if !plan.is_decided(tokens.id(at, &mut segment)) {
             return true;
         }
-        at = next_trailing(toks, at + 1);
+        at = next_trailing(tokens, at + 1);
     }
     false
 }
@@ -98,25 +98,25 @@ struct Behind {
 fn walk_to(
     style: &Style,
     plan: &Plan<'_>,
-    toks: &ViewTokens<'_>,
+    tokens: &ViewTokens<'_>,
     known: Behind,
     place: usize,
     run: &Bump,
 ) -> Result<u32, NoMemory>
     requires range { IsInRange style.now }
-    requires within { All (λ token. token.id.0 < length plan.now) toks.now }
-    requires inside { place < length toks.now }
+    requires within { All (λ token. token.id.0 < length plan.now) tokens.now }
+    requires inside { place < length tokens.now }
     requires order { known.place ≤ place }
-    requires known { known.column ≡ column_behind style.now plan.now toks.now known.place }
-    ensures { IfOk result (λ column. column ≡ column_behind style.now plan.now toks.now place) }
+    requires known { known.column ≡ column_behind style.now plan.now tokens.now known.place }
+    ensures { IfOk result (λ column. column ≡ column_behind style.now plan.now tokens.now place) }
 {
     // How many there are fits, and so the next place.
-    let _count = toks.len();
-    let tokens = toks.between(known.place, place + 1, run)?;
+    let _count = tokens.len();
+    let between = tokens.between(known.place, place + 1, run)?;
     let mut column = known.column;
     for at in 0..place - known.place {
-        let left = token_at(tokens, at);
-        let token = token_at(tokens, at + 1);
+        let left = token_at(between, at);
+        let token = token_at(between, at + 1);
         let start = start_by(style, left, column, token, plan.slot(token.id.0));
         column = token.end_of(start);
     }
@@ -127,23 +127,23 @@ fn walk_to(
 fn column_behind(
     style: &Style,
     plan: &Plan<'_>,
-    toks: &ViewTokens<'_>,
+    tokens: &ViewTokens<'_>,
     token: &LineTok,
     known: Behind,
     place: usize,
     run: &Bump,
 ) -> Result<u32, NoMemory>
     requires range { IsInRange style.now }
-    requires within { All (λ token. token.id.0 < length plan.now) toks.now }
-    requires inside { place < length toks.now }
-    requires token { token.now ≡ get_or toks.now place no_token }
+    requires within { All (λ token. token.id.0 < length plan.now) tokens.now }
+    requires inside { place < length tokens.now }
+    requires token { token.now ≡ get_or tokens.now place no_token }
     requires order { known.place ≤ place }
-    requires known { known.column ≡ column_behind style.now plan.now toks.now known.place }
-    ensures { IfOk result (λ column. column ≡ column_behind style.now plan.now toks.now place) }
+    requires known { known.column ≡ column_behind style.now plan.now tokens.now known.place }
+    ensures { IfOk result (λ column. column ≡ column_behind style.now plan.now tokens.now place) }
 {
     match plan.slot(token.id.0) {
         Some(slot) => Ok(token.end_of(slot.end)),
-        None => walk_to(style, plan, toks, known, place, run),
+        None => walk_to(style, plan, tokens, known, place, run),
     }
 }
 
@@ -151,32 +151,32 @@ fn column_behind(
 fn comment_at(
     style: &Style,
     plan: &Plan<'_>,
-    toks: &ViewTokens<'_>,
+    tokens: &ViewTokens<'_>,
     at: usize,
     known: &mut Behind,
     segment: &mut usize,
     run: &Bump,
 ) -> Result<Comment, NoMemory>
     requires range { IsInRange style.now }
-    requires within { All (λ token. token.id.0 < length plan.now) toks.now }
-    requires inside { at < length toks.now }
+    requires within { All (λ token. token.id.0 < length plan.now) tokens.now }
+    requires inside { at < length tokens.now }
     requires order { known.old.place < at }
-    requires known { known.old.column ≡ column_behind style.now plan.now toks.now known.old.place }
+    requires known { known.old.column ≡ column_behind style.now plan.now tokens.now known.old.place }
     ensures order { OnOk result (known.new.place < at) }
-    ensures known { OnOk result (known.new.column ≡ column_behind style.now plan.now toks.now known.new.place) }
+    ensures known { OnOk result (known.new.column ≡ column_behind style.now plan.now tokens.now known.new.place) }
     ensures comment { IfOk result (λ comment. comment
-        ≡ comment_of style.now plan.now (get_or toks.now (at - 1) no_token)
-        (column_behind style.now plan.now toks.now (at - 1)) (get_or toks.now at no_token)
-        (drop (at + 1) toks.now)) }
+        ≡ comment_of style.now plan.now (get_or tokens.now (at - 1) no_token)
+        (column_behind style.now plan.now tokens.now (at - 1)) (get_or tokens.now at no_token)
+        (drop (at + 1) tokens.now)) }
 {
     // How many there are fits, and so the next place.
-    let _count = toks.len();
+    let _count = tokens.len();
     let place = at - 1;
-    let left = toks.at(place);
-    let column = column_behind(style, plan, toks, &left, *known, place, run)?;
+    let left = tokens.at(place);
+    let column = column_behind(style, plan, tokens, &left, *known, place, run)?;
     *known = Behind { place, column };
-    let token = toks.at(at);
-    let next = is_next(plan, toks, at + 1, segment);
+    let token = tokens.at(at);
+    let next = is_next(plan, tokens, at + 1, segment);
     Ok(comment_of(style, plan, &left, column, &token, next))
 }
 
@@ -184,28 +184,28 @@ fn comment_at(
 fn comments_in<'r>(
     style: &Style,
     plan: &Plan<'_>,
-    toks: &ViewTokens<'_>,
+    tokens: &ViewTokens<'_>,
     run: &'r Bump,
 ) -> Result<Vec<Comment, &'r Bump>, NoMemory>
     requires range { IsInRange style.now }
-    requires within { All (λ token. token.id.0 < length plan.now) toks.now }
-    ensures { IfOk result (λ comments. comments.items ≡ comments_in style.now plan.now toks.now) }
+    requires within { All (λ token. token.id.0 < length plan.now) tokens.now }
+    ensures { IfOk result (λ comments. comments.items ≡ comments_in style.now plan.now tokens.now) }
 {
     let mut comments = Vec::new(run);
-    if toks.is_empty() {
+    if tokens.is_empty() {
         return Ok(comments);
     }
-    let first = toks.at(0);
+    let first = tokens.at(0);
     let mut known = Behind {
         place: 0,
         column: first.end_of(first_start(plan.slot(first.id.0))),
     };
     let mut segment = 0;
-    let mut at = next_trailing(toks, 1);
-    while at < toks.len() {
-        let comment = comment_at(style, plan, toks, at, &mut known, &mut segment, run)?;
+    let mut at = next_trailing(tokens, 1);
+    while at < tokens.len() {
+        let comment = comment_at(style, plan, tokens, at, &mut known, &mut segment, run)?;
         comments.push(comment)?;
-        at = next_trailing(toks, at + 1);
+        at = next_trailing(tokens, at + 1);
     }
     Ok(comments)
 }
@@ -248,23 +248,23 @@ fn place_all(comments: &[Comment], rows: &[TrailRow], plan: &mut Plan<'_>)
     }
 }
 
-/// Decides the open gaps before the trailing comments of a view, whose other gaps are decided. `toks` are the view's
+/// Decides the open gaps before the trailing comments of a view, whose other gaps are decided. `tokens` are the view's
 /// tokens. Those alone are made that tell where comments stand. Want of memory is the only error.
 pub fn place_comments(
     style: &Style,
-    toks: &ViewTokens<'_>,
+    tokens: &ViewTokens<'_>,
     plan: &mut Plan<'_>,
     run: &Bump,
 ) -> Result<(), NoMemory>
     requires range { IsInRange style.now }
-    requires within { All (λ token. token.id.0 < length plan.old) toks.now }
-    ensures plan { OnOk result (plan.new ≡ decided_all plan.old (comments_made style.now toks.now plan.old)) }
+    requires within { All (λ token. token.id.0 < length plan.old) tokens.now }
+    ensures plan { OnOk result (plan.new ≡ decided_all plan.old (comments_made style.now tokens.now plan.old)) }
     ensures len { length plan.new ≡ length plan.old }
 {
-    if !has_open_comment(plan, toks) {
+    if !has_open_comment(plan, tokens) {
         return Ok(());
     }
-    let comments = comments_in(style, plan, toks, run)?;
+    let comments = comments_in(style, plan, tokens, run)?;
     let mut rows = rows_of(&comments, run)?;
     align(style, &mut rows);
     place_all(&comments, &rows, plan);

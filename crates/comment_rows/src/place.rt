@@ -64,10 +64,10 @@ pub fn align(style: &Style, rows: &mut [TrailRow])
         return;
     }
     let mut before = None;
-    for i in 0..rows.len() {
-        let column = shared_column(before, &rows[i..]);
-        let row = rows[i];
-        rows[i] = moved_to(row, column);
+    for index in 0..rows.len() {
+        let column = shared_column(before, &rows[index..]);
+        let row = rows[index];
+        rows[index] = moved_to(row, column);
         before = if row.next { Some(column) } else { None };
     }
 }

@@ -93,18 +93,18 @@ fn next_among(plan: &Plan<'_>, row: &RowTokens<'_>, ended: &mut u64) -> Option<b
 /// and no directive stands between. `segment` is the number of the view's segment that was looked into last.
 pub(crate) fn is_next(
     plan: &Plan<'_>,
-    toks: &ViewTokens<'_>,
+    tokens: &ViewTokens<'_>,
     first: usize,
     segment: &mut usize,
 ) -> bool
-    requires within { All (λ token. token.id.0 < length plan.now) toks.now }
-    requires inside { first ≤ length toks.now }
-    ensures { result ≡ is_next plan.now 0 (drop first toks.now) }
+    requires within { All (λ token. token.id.0 < length plan.now) tokens.now }
+    requires inside { first ≤ length tokens.now }
+    ensures { result ≡ is_next plan.now 0 (drop first tokens.now) }
 {
     let mut ended = 0;
     let mut place = first;
-    while place < toks.len() {
-        let row = toks.row_from(place, segment);
+    while place < tokens.len() {
+        let row = tokens.row_from(place, segment);
         if let Some(next) = next_among(plan, &row, &mut ended) {
             return next;
         }

@@ -8,15 +8,15 @@ use view_tokens::ViewTokens;
 
 /// Whether none of eight tokens from a place on is a trailing comment.
 #[inline(always)]
-fn are_eight_others(toks: &ViewTokens<'_>, first: usize) -> bool
-    requires { first + 8 ≤ length toks.now }
+fn are_eight_others(tokens: &ViewTokens<'_>, first: usize) -> bool
+    requires { first + 8 ≤ length tokens.now }
     ensures { IsTrue result → (i : ℕ) (d : LineTok) → first ≤ i → i < first + 8 →
-        is_trailing (get_or toks.now i d).role ≡ false }
+        is_trailing (get_or tokens.now i d).role ≡ false }
 {
     // How many there are fits, and so each place.
-    let _count = toks.len();
+    let _count = tokens.len();
     for next in 0..8 {
-        if toks.role(first + next).is_trailing() {
+        if tokens.role(first + next).is_trailing() {
             return false;
         }
     }
@@ -26,15 +26,15 @@ fn are_eight_others(toks: &ViewTokens<'_>, first: usize) -> bool
 /// A place up to which no token from another place on is a trailing comment. They are looked at by eights, since that
 /// many take fewer steps at once than one by one.
 #[inline(always)]
-fn others_end(toks: &ViewTokens<'_>, from: usize) -> usize
-    requires { from ≤ length toks.now }
+fn others_end(tokens: &ViewTokens<'_>, from: usize) -> usize
+    requires { from ≤ length tokens.now }
     ensures later { from ≤ result }
-    ensures within { result ≤ length toks.now }
-    ensures others { (i : ℕ) (d : LineTok) → from ≤ i → i < result → is_trailing (get_or toks.now i d).role ≡ false }
+    ensures within { result ≤ length tokens.now }
+    ensures others { (i : ℕ) (d : LineTok) → from ≤ i → i < result → is_trailing (get_or tokens.now i d).role ≡ false }
 {
     let mut first = from;
-    while toks.len() - first >= 8 {
-        if !are_eight_others(toks, first) {
+    while tokens.len() - first >= 8 {
+        if !are_eight_others(tokens, first) {
             return first;
         }
         first += 8;
@@ -44,17 +44,17 @@ fn others_end(toks: &ViewTokens<'_>, from: usize) -> usize
 
 /// The place of the first trailing comment from a place on, or behind the last token.
 #[inline(never)]
-pub(crate) fn next_trailing(toks: &ViewTokens<'_>, from: usize) -> usize
-    requires { from ≤ length toks.now }
+pub(crate) fn next_trailing(tokens: &ViewTokens<'_>, from: usize) -> usize
+    requires { from ≤ length tokens.now }
     ensures later { from ≤ result }
-    ensures within { result ≤ length toks.now }
-    ensures others { (i : ℕ) (d : LineTok) → from ≤ i → i < result → is_trailing (get_or toks.now i d).role ≡ false }
-    ensures found { result < length toks.now → (d : LineTok) → is_trailing (get_or toks.now result d).role ≡ true }
+    ensures within { result ≤ length tokens.now }
+    ensures others { (i : ℕ) (d : LineTok) → from ≤ i → i < result → is_trailing (get_or tokens.now i d).role ≡ false }
+    ensures found { result < length tokens.now → (d : LineTok) → is_trailing (get_or tokens.now result d).role ≡ true }
 {
-    for at in others_end(toks, from)..toks.len() {
-        if toks.role(at).is_trailing() {
+    for at in others_end(tokens, from)..tokens.len() {
+        if tokens.role(at).is_trailing() {
             return at;
         }
     }
-    toks.len()
+    tokens.len()
 }

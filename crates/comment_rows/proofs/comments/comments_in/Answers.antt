@@ -11,7 +11,7 @@ pub loop-at-init : goal.loop-at-init
 loop-at-init c =
     let style = c.args.style.now in
     let plan = c.args.plan.now in
-    let tokens = c.args.toks.now in
+    let tokens = c.args.tokens.now in
     let token = c.at-first.result in
     let first = c.next_trailing-at.ensures in
     let at = c.next_trailing-at.result in
@@ -31,7 +31,7 @@ pub loop-at-preserved : goal.loop-at-preserved
 loop-at-preserved c =
     let style = c.args.style.now in
     let plan = c.args.plan.now in
-    let tokens = c.args.toks.now in
+    let tokens = c.args.tokens.now in
     let v = c.loop-at.invariant in
     let at = c.loop-at.at in
     let made = c.in_ok-comment.ensures in

@@ -10,7 +10,7 @@ loop-at-init c =
     let first = c.next_trailing-at.ensures in
     record {
       within = first.within;
-      decided = none_open c.args.plan.now c.args.toks.now 0 c.next_trailing-at.result (λ i d high. absurd (omega (arith, high))) first.others;
+      decided = none_open c.args.plan.now c.args.tokens.now 0 c.next_trailing-at.result (λ i d high. absurd (omega (arith, high))) first.others;
     }
 
 pub is_decided-requires : goal.is_decided-requires
@@ -23,6 +23,6 @@ loop-at-preserved c =
     let next = c.next_trailing-at-in-loop-at.ensures in
     record {
       within = next.within;
-      decided = none_open c.args.plan.now c.args.toks.now (at + 1) c.next_trailing-at-in-loop-at.result
-          (one_decided c.args.plan.now c.args.toks.now at (λ d. subst (λ n. IsSome (slot_of c.args.plan.now n)) (c.id.ensures d) (c.is_decided.ensures.0 c.if-not-is_decided.false)) v.decided) next.others;
+      decided = none_open c.args.plan.now c.args.tokens.now (at + 1) c.next_trailing-at-in-loop-at.result
+          (one_decided c.args.plan.now c.args.tokens.now at (λ d. subst (λ n. IsSome (slot_of c.args.plan.now n)) (c.id.ensures d) (c.is_decided.ensures.0 c.if-not-is_decided.false)) v.decided) next.others;
     }

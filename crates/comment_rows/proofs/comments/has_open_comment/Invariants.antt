@@ -7,9 +7,9 @@ use Rattle.comment_rows.proofs.comments.has_open_comment.Given as goal
 
 abbrev pub invariant-loop-at : goal.invariant-loop-at
 invariant-loop-at l = record {
-  within : l.at ≤ length l.toks;
-  decided : (i : ℕ) (d : LineTok) → i < l.at → is_trailing (get_or l.toks i d).role ≡ true → IsSome (slot_of l.plan (get_or l.toks i d).id.0);
+  within : l.at ≤ length l.tokens;
+  decided : (i : ℕ) (d : LineTok) → i < l.at → is_trailing (get_or l.tokens i d).role ≡ true → IsSome (slot_of l.plan (get_or l.tokens i d).id.0);
 }
 
 abbrev pub decreases-loop-at : goal.decreases-loop-at
-decreases-loop-at l = length l.toks - l.at
+decreases-loop-at l = length l.tokens - l.at

@@ -8,9 +8,9 @@ use Rattle.comment_rows.proofs.comments.place_comments.Goals as goal
 
 pub returns-then-not-has_open_comment-clause-plan : goal.returns-then-not-has_open_comment-clause-plan
 returns-then-not-has_open_comment-clause-plan c =
-    sym (ap (λ (made : List (ℕ × Slot)). decided_all c.args.plan.now made) (none_made c.args.style.now c.args.plan.now c.args.toks.now c.if-not-has_open_comment.ensures))
+    sym (ap (λ (made : List (ℕ × Slot)). decided_all c.args.plan.now made) (none_made c.args.style.now c.args.plan.now c.args.tokens.now c.if-not-has_open_comment.ensures))
 
 pub place_all-requires-clause-within : goal.place_all-requires-clause-within
 place_all-requires-clause-within c =
     subst (λ (xs : List Comment). All (λ (comment : Comment). comment.id < length c.args.plan.now) xs) (sym (c.deref-2.ensures.value ∙ c.in_ok-comments.ensures))
-    (comments_within c.args.style.now c.args.plan.now c.args.toks.now (length c.args.plan.now) c.requires.within)
+    (comments_within c.args.style.now c.args.plan.now c.args.tokens.now (length c.args.plan.now) c.requires.within)

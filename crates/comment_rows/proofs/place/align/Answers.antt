@@ -11,5 +11,5 @@ returns-then-eq-clause-right c = stands_right Never c.args.rows.now
 pub returns-clause-right : goal.returns-clause-right
 returns-clause-right c =
     let P : List TrailRow → Type 0 = λ rows. StandRight c.args.rows.now rows in
-    let all = lined_all c.args.rows.now c.loop-i.rows c.loop-i.i c.loop-i.before (omega (arith, c.loop-i-test.false, c.loop-i.invariant.whole)) c.loop-i.invariant.done in
+    let all = lined_all c.args.rows.now c.loop-index.rows c.loop-index.index c.loop-index.before (omega (arith, c.loop-index-test.false, c.loop-index.invariant.whole)) c.loop-index.invariant.done in
     subst P (sym all) (stands_right Always c.args.rows.now)

@@ -7,7 +7,7 @@ use Rattle.comment_rows.proofs.rows.is_next.Goals as goal
 
 pub returns-in-Some : goal.returns-in-Some
 returns-in-Some c =
-    let toks = c.args.toks.now in
+    let toks = c.args.tokens.now in
     let place = c.loop-place.place in
     let end = place + length c.row_from-row.result in
     let split : drop place toks ≡ c.row_from-row.result ++ drop end toks = drop_split toks place end (omega arith) ∙ ap (λ (xs : List LineTok). xs ++ drop end toks) (sym c.row_from-row.ensures.tokens) in
@@ -15,7 +15,7 @@ returns-in-Some c =
 
 pub loop-place-preserved : goal.loop-place-preserved
 loop-place-preserved c =
-    let toks = c.args.toks.now in
+    let toks = c.args.tokens.now in
     let place = c.loop-place.place in
     let end = place + c.len-place.result in
     let whole : place + length c.row_from-row.result ≡ end = omega (arith, c.len-place.ensures) in

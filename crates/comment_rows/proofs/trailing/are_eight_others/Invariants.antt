@@ -4,4 +4,4 @@ use Rattle.line_tokens.specs.declared.LineTok.{LineTok}
 use Rattle.comment_rows.proofs.trailing.are_eight_others.Given as goal
 
 abbrev pub invariant-loop-next : goal.invariant-loop-next
-invariant-loop-next l = (i : ℕ) (d : LineTok) → l.first ≤ i → i < l.first + l.next → is_trailing (get_or l.toks i d).role ≡ false
+invariant-loop-next l = (i : ℕ) (d : LineTok) → l.first ≤ i → i < l.first + l.next → is_trailing (get_or l.tokens i d).role ≡ false

@@ -9,5 +9,5 @@ loop-at-preserved c =
     record {
       later = omega (arith, v.later);
       within = omega (arith, c.loop-at-test.true);
-      others = others_more c.args.toks.now c.args.from c.loop-at.at (λ d. ap (λ r. is_trailing r) (sym (c.role.ensures d)) ∙ (sym c.is_trailing.ensures ∙ c.if-is_trailing.false)) v.others;
+      others = others_more c.args.tokens.now c.args.from c.loop-at.at (λ d. ap (λ r. is_trailing r) (sym (c.role.ensures d)) ∙ (sym c.is_trailing.ensures ∙ c.if-is_trailing.false)) v.others;
     }

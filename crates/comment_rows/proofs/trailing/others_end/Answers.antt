@@ -9,5 +9,5 @@ loop-first-preserved c =
     record {
       later = omega (arith, v.later);
       within = omega (arith, v.within, c.loop-first-test.true);
-      others = others_on c.args.toks.now c.args.from at (at + 8) v.others (c.are_eight_others.ensures c.if-not-are_eight_others.false);
+      others = others_on c.args.tokens.now c.args.from at (at + 8) v.others (c.are_eight_others.ensures c.if-not-are_eight_others.false);
     }
