@@ -40,13 +40,13 @@ pub fn is_decided(
 {
     let count = view.len();
     prove!(line.last < count);
-    let mut k = line.first;
-    while k <= line.last {
-        let stretch = stretch_near(arena, view, k, line.last + 1, segment);
+    let mut place = line.first;
+    while place <= line.last {
+        let stretch = stretch_near(arena, view, place, line.last + 1, segment);
         if !is_row_decided(plan, stretch.first, stretch.end) {
             return false;
         }
-        k += stretch.end - stretch.first;
+        place += stretch.end - stretch.first;
     }
     true
 }

@@ -132,13 +132,13 @@ fn first_decision(layout: &ViewLayout<'_>, line: &ULine, id: u32) -> Decision
 {
     let classes = layout.classes;
     let count = classes.len();
-    let k = line.first;
-    prove!((k as usize) < count);
+    let place = line.first;
+    prove!((place as usize) < count);
     if begins_next_row(layout.arena, id) {
         return next_row(layout.style, line);
     }
-    let opened = opens_before(classes, k);
-    let class = classes[k as usize];
+    let opened = opens_before(classes, place);
+    let class = classes[place as usize];
     first_of_line(layout.style, layout.arena, line, opened, class, id)
 }
 

@@ -34,13 +34,13 @@ fn is_view_open(arena: &TokenArena<'_, '_>, view: &View<'_>, plan: &Plan<'_>) ->
 {
     let count = view.len();
     let mut segment = 0;
-    let mut k = 0;
-    while k < count {
-        let stretch = stretch_near(arena, view, k, count, &mut segment);
+    let mut place = 0;
+    while place < count {
+        let stretch = stretch_near(arena, view, place, count, &mut segment);
         if !is_row_open(plan, stretch.first, stretch.end) {
             return false;
         }
-        k += stretch.end - stretch.first;
+        place += stretch.end - stretch.first;
     }
     true
 }
@@ -66,10 +66,10 @@ fn tell_stretch(
 {
     let items = arena.len();
     let count = view.len();
-    for k in 0..stretch.end - stretch.first {
-        let id = stretch.first + k;
+    for offset in 0..stretch.end - stretch.first {
+        let id = stretch.first + offset;
         if plan.is_decided(id) {
-            fixed[(place + k) as usize] = plan.fixed_of(arena, id);
+            fixed[(place + offset) as usize] = plan.fixed_of(arena, id);
         }
     }
     let _ = items;
@@ -95,11 +95,11 @@ pub fn fixed_of_view<'r>(
     }
     let fixed = own_open(count as usize, run)?;
     let mut segment = 0;
-    let mut k = 0;
-    while k < count {
-        let stretch = stretch_near(arena, view, k, count, &mut segment);
-        tell_stretch(arena, view, plan, k, stretch, fixed);
-        k += stretch.end - stretch.first;
+    let mut place = 0;
+    while place < count {
+        let stretch = stretch_near(arena, view, place, count, &mut segment);
+        tell_stretch(arena, view, plan, place, stretch, fixed);
+        place += stretch.end - stretch.first;
     }
     Ok(&*fixed)
 }

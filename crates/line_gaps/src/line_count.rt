@@ -21,7 +21,7 @@ pub struct LineCount {
 fn line_feeds(bytes: &[u8]) -> usize
     ensures { result ≡ count_by is_line_feed bytes.now }
 {
-    bytes.iter().filter(|b| **b == b'\n').count()
+    bytes.iter().filter(|byte| **byte == b'\n').count()
 }
 
 /// How many new-lines stand before a place. They are counted from where the last count ended, forward or back.

@@ -79,8 +79,8 @@ fn move_to(
     ensures place { cursor.new.place ≡ place }
     ensures column { cursor.new.column ≡ input_before style.now arena.now view.now place }
 {
-    for k in cursor.place..place {
-        let _ = pass(style, arena, view.at(k).0, cursor);
+    for at in cursor.place..place {
+        let _ = pass(style, arena, view.at(at).0, cursor);
     }
 }
 
@@ -115,8 +115,8 @@ pub fn report_line(
     prove!(line.last < count);
     decide_first(layout, line, view.at(line.first).0, plan);
     move_to(style, arena, view, line.first + 1, cursor);
-    for k in line.first + 1..line.last + 1 {
-        let id = view.at(k).0;
+    for place in line.first + 1..line.last + 1 {
+        let id = view.at(place).0;
         let start = pass(style, arena, id, cursor);
         let _ = plan.decide(id, Decision::Old, start);
     }

@@ -11,10 +11,10 @@ returns-then-is_view_open c =
     ∙ (ap (λ n. replicate {A = Option Fixed} n None) c.len-count.ensures.count ∙ view_open c.args.arena.now c.args.plan.now c.args.view.now (c.is_view_open.ensures c.if-is_view_open.true))
 
 pub returns : goal.returns
-returns c = c.loop-k.invariant.told ∙ all_told (fixed_of_id c.args.arena.now c.args.plan.now) c.args.view.now c.loop-k.k (omega (arith, c.loop-k-test.false, c.len-count.ensures.count))
+returns c = c.loop-place.invariant.told ∙ all_told (fixed_of_id c.args.arena.now c.args.plan.now) c.args.view.now c.loop-place.place (omega (arith, c.loop-place-test.false, c.len-count.ensures.count))
 
-pub loop-k-init : goal.loop-k-init
-loop-k-init c = record {
+pub loop-place-init : goal.loop-place-init
+loop-place-init c = record {
   within = omega arith;
   told = c.in_ok-fixed.ensures
       ∙ (ap (λ n. replicate {A = Option Fixed} n None) c.len-count.ensures.count ∙ none_told (fixed_of_id c.args.arena.now c.args.plan.now) c.args.view.now);

@@ -23,24 +23,24 @@ move_to-requires c = record {
 pub decide-requires : goal.decide-requires
 decide-requires c =
     let layout = c.args.layout.now in
-    let within : get_or layout.view.now c.loop-k.k 0 < length layout.arena.now.tokens = c.requires.items c.loop-k.k 0 (omega (arith, c.loop-k-test.true, c.requires.places)) in
-    omega (arith, within, c.at-id.ensures 0, c.loop-k.invariant.len, c.requires.whole)
+    let within : get_or layout.view.now c.loop-place.place 0 < length layout.arena.now.tokens = c.requires.items c.loop-place.place 0 (omega (arith, c.loop-place-test.true, c.requires.places)) in
+    omega (arith, within, c.at-id.ensures 0, c.loop-place.invariant.len, c.requires.whole)
 
-pub loop-k-preserved : goal.loop-k-preserved
-loop-k-preserved c =
+pub loop-place-preserved : goal.loop-place-preserved
+loop-place-preserved c =
     let style = c.args.layout.now.style.now in
     let arena = c.args.layout.now.arena.now in
     let ids = c.args.layout.now.view.now in
     let last = c.args.line.now.last in
-    let k = c.loop-k.k in
-    let v = c.loop-k.invariant in
+    let k = c.loop-place.place in
+    let v = c.loop-place.invariant in
     let p = c.pass-start in
-    let more : last + 1 - k ≡ suc (last + 1 - (k + 1)) = omega (arith, c.loop-k-test.true) in
+    let more : last + 1 - k ≡ suc (last + 1 - (k + 1)) = omega (arith, c.loop-place-test.true) in
     record {
       place = p.ensures.place ∙ ap (λ x. x + 1) v.place;
-      column = passed style arena ids k c.at-id.result.0 c.loop-k.cursor.column p.new.cursor.column v.column (c.at-id.ensures 0) p.ensures.column;
+      column = passed style arena ids k c.at-id.result.0 c.loop-place.cursor.column p.new.cursor.column v.column (c.at-id.ensures 0) p.ensures.column;
       len = c.decide.ensures.len ∙ v.len;
-      rest = old_more style arena ids c.loop-k.plan c.decide.new.self c.loop-k.cursor.column p.new.cursor.column k c.at-id.result.0 p.result (last + 1 - (k + 1)) (last + 1 - k) more (c.at-id.ensures 0)
+      rest = old_more style arena ids c.loop-place.plan c.decide.new.self c.loop-place.cursor.column p.new.cursor.column k c.at-id.result.0 p.result (last + 1 - (k + 1)) (last + 1 - k) more (c.at-id.ensures 0)
           p.ensures.start p.ensures.column c.decide.ensures.plan
           ∙ v.rest;
     }
