@@ -50,10 +50,10 @@ pub fn keep_gaps(
         return;
     }
     let mut column = 0;
-    for k in 0..view.len() {
-        let id = view.at(k);
+    for place in 0..view.len() {
+        let id = view.at(place);
         let start = column_through(style.tab_width, column, arena.gap(id.0));
-        keep(plan, id, marks[k as usize], start);
+        keep(plan, id, marks[place as usize], start);
         column = column_behind(arena, start, id.0);
     }
 }
