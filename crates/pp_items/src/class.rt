@@ -18,7 +18,7 @@ use c_grammar::only_char;
 fn are_hex(bytes: &[u8]) -> bool
     ensures { result ≡ list_all is_hex bytes.now }
 {
-    bytes.iter().all(|b| is_hex(*b))
+    bytes.iter().all(|byte| is_hex(*byte))
 }
 
 /// A universal character name (6.4.3).

@@ -145,7 +145,7 @@ fn is_unclosed(text: &[u8]) -> bool
 fn is_in_line(text: &[u8]) -> bool
     ensures { result ≡ is_in_line text.now }
 {
-    text.iter().all(|b| !class::is_new_line(*b))
+    text.iter().all(|byte| !class::is_new_line(*byte))
 }
 
 /// Whether it is two apostrophes and what stands behind them in their line.

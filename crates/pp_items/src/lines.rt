@@ -12,7 +12,7 @@ fn line_feeds(bytes: &[u8]) -> u32
     requires fits { length bytes.now ≤ LIMIT }
     ensures { result ≡ count_by (λ c. c == 10) bytes.now }
 {
-    bytes.iter().filter(|b| **b == b'\n').count() as u32
+    bytes.iter().filter(|byte| **byte == b'\n').count() as u32
 }
 
 /// A text, and the physical line of an offset in it. It goes onwards, so that no byte is looked at twice.
