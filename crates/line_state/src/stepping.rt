@@ -16,7 +16,7 @@ ghost use Rattle.line_tokens.specs.Columns.{end_of};
 ghost use Rattle.std.specs.Bool.{OnTrue};
 
 use crate::gap::{Gap, GapRules, gap_rules, opens_frame};
-use crate::placing::{cost, end_column, excess_cost, frame_above, placed, start_column};
+use crate::placing::{cost, excess_cost, frame_above, placed, start_column};
 use crate::rules::{allows, is_refused};
 use crate::spot::Spot;
 use frame_store::{Frame, FrameStore, NodeState};
@@ -161,7 +161,7 @@ fn step_from<'r>(
     let node = place_in(store, style, gap, left_open, top)?;
     Ok(NodeState {
         index: state.index + 1,
-        column: end_column(&gap.right, start),
+        column: gap.right.end_of(start),
         cost: state.cost + u128::from(cost),
         node,
     })
@@ -303,7 +303,7 @@ fn step_below(
     let cost = rule.cost + excess_cost(style, past);
     NodeState {
         index: state.index + 1,
-        column: end_column(&gap.right, start),
+        column: gap.right.end_of(start),
         cost: state.cost + u128::from(cost),
         node: left_open,
     }

@@ -13,8 +13,8 @@ returns-clause-layout c =
     let right = c.args.right.now in
     let layout = layout_of state in
     let gap = gap_before layout c.args.left.now right c.args.fixed in
-    let column : c.end_column.result ≡ end_of right (start_of style layout gap c.args.brk) =
-    c.end_column.ensures ∙ ap (end_of right) (c.start_column-start.ensures ∙ ap (λ (s : Spot). start_at style s gap c.args.brk) c.spot_before-spot.ensures) in
+    let column : c.end_of.result ≡ end_of right (start_of style layout gap c.args.brk) =
+    c.end_of.ensures ∙ ap (end_of right) (c.start_column-start.ensures ∙ ap (λ (s : Spot). start_at style s gap c.args.brk) c.spot_before-spot.ensures) in
     let top : c.placed-top.result ≡ placed_frame style (spot_of layout gap) gap c.args.brk = c.placed-top.ensures ∙ ap (λ (s : Spot). placed_frame style s gap c.args.brk) c.spot_before-spot.ensures in
     let frames : c.in_ok-frames-2.frames ≡ frames_after style layout gap c.args.brk =
     c.in_ok-frames-2.ensures ∙ ap (λ (fs : List Frame). with_opened style right.role state.base (with_topmost fs c.placed-top.result)) c.in_ok-frames.ensures
