@@ -40,8 +40,10 @@ fn keep_levels(levels: &mut Vec<u32, &Bump>, rows: &[ULine]) -> Result<(), NoMem
     ensures some { length levels.new.items ≤ length rows.now }
     ensures all { OnOk result (length levels.new.items ≡ length rows.now) }
 {
-    while levels.len() < rows.len() {
-        levels.push(rows[levels.len()].level)?;
+    let kept = levels.len();
+    levels.reserve(rows.len() - kept)?;
+    for number in kept..rows.len() {
+        levels.push_reserved(rows[number].level);
     }
     Ok(())
 }

@@ -1,11 +1,12 @@
-use Rattle.std.proofs.Common.{arith, ◌∙◌}
+use Rattle.std.proofs.Common.{arith, ◌∙◌, sym}
 use Rattle.statement_lines.proofs.KeptLines.{level_kept}
 use Rattle.statement_lines.proofs.lines.keep_levels.Goals as goal
 
-pub loop-levels-preserved : goal.loop-levels-preserved
-loop-levels-preserved c = record {
-  count = omega (arith, c.in_ok-push.ensures.len, c.loop-levels-test.true, c.len.ensures, c.loop-levels.levels.ok.0, c.push.new.self.ok.0);
-  lines = level_kept c.args.rows.now c.loop-levels.levels.items c.push.new.self.items c.len-in-loop-levels.result _ (omega (arith, c.len-in-loop-levels.ensures, c.loop-levels.levels.ok.0)) (omega (arith, c.loop-levels-test.true, c.len.ensures, c.len-in-loop-levels.ensures))
-      c.in_ok-push.ensures.items
-      ∙ c.loop-levels.invariant.lines;
-}
+pub loop-number-preserved : goal.loop-number-preserved
+loop-number-preserved c =
+    let v = c.loop-number.invariant in
+    record {
+      count = omega (arith, c.push_reserved.ensures.len, v.count, c.loop-number.levels.ok.0, c.push_reserved.new.self.ok.0);
+      room = omega (arith, v.room, c.push_reserved.ensures.capacity);
+      lines = level_kept c.args.rows.now c.loop-number.levels.items c.push_reserved.new.self.items c.loop-number.number _ (sym v.count) (omega (arith, c.loop-number-test.true)) c.push_reserved.ensures.items ∙ v.lines;
+    }
