@@ -12,9 +12,9 @@ use token_classes::TokenClass;
 fn last_is_comma(group: &[TokenClass]) -> bool
     ensures { result ≡ last_is_comma group.now }
 {
-    for i in (0..group.len()).rev() {
-        if !group[i].is_comment() {
-            return group[i].is_comma();
+    for place in (0..group.len()).rev() {
+        if !group[place].is_comment() {
+            return group[place].is_comma();
         }
     }
     false

@@ -32,16 +32,16 @@ pub(crate) fn is_held(marks: &[Mark]) -> bool
 
 /// Whether the inner comment behind these tokens stays where it stood. One behind another does if that does.
 #[inline(never)]
-pub fn holds_inner(marks: &[Mark], toks: &[LineTok]) -> bool
-    requires within { length toks.now < length marks.now }
-    requires told { TellsHeld marks.now toks.now }
-    ensures { result ≡ is_held (drop (length toks.now) marks.now) }
+pub fn holds_inner(marks: &[Mark], tokens: &[LineTok]) -> bool
+    requires within { length tokens.now < length marks.now }
+    requires told { TellsHeld marks.now tokens.now }
+    ensures { result ≡ is_held (drop (length tokens.now) marks.now) }
 {
-    let place = toks.len();
+    let place = tokens.len();
     if place > 0 {
         let before = marks[place - 1].seen;
         if is_inner(before.role) && !is_hash(before.class) {
-            return toks[place - 1].held;
+            return tokens[place - 1].held;
         }
     }
     is_held(&marks[place..])
