@@ -31,7 +31,7 @@ pub(crate) fn begins_no_hash(raw: &[u8]) -> bool
     ensures { IsTrue result → SpellsNoHash raw.now }
 {
     match raw {
-        [a, ..] => !may_begin_hash(*a),
+        [first, ..] => !may_begin_hash(*first),
         [] => false,
     }
 }

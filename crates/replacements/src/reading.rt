@@ -17,8 +17,8 @@ fn has_new_line(dialect: Dialect, gap: &[u8]) -> bool
     ensures { result ≡ list_any is_new_line (read_alone dialect gap.now) }
 {
     let mut chars = Chars::new(gap, dialect);
-    while let Some(c) = chars.next() {
-        if c.byte == b'\n' {
+    while let Some(character) = chars.next() {
+        if character.byte == b'\n' {
             return true;
         }
     }

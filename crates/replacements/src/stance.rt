@@ -32,9 +32,9 @@ pub fn stance_at(sections: &[Section], next: &mut usize, place: u32) -> Stance
                     return Stance::OfText;
                 }
             }
-            Section::Dir(dir) => {
-                if place < dir.end {
-                    return if place == dir.first {
+            Section::Dir(directive) => {
+                if place < directive.end {
+                    return if place == directive.first {
                         Stance::Leads
                     } else {
                         Stance::Within

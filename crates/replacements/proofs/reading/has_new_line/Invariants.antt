@@ -5,8 +5,8 @@ use Rattle.c_grammar.specs.Grammar.{is_new_line}
 use Rattle.c_grammar.specs.Rewritten.{read_alone}
 use Rattle.replacements.proofs.reading.has_new_line.Given as goal
 
-abbrev pub invariant-loop-c : goal.invariant-loop-c
-invariant-loop-c l = list_any is_new_line (bytes_of l.chars.chars) ≡ list_any is_new_line (read_alone l.fn.dialect l.fn.gap)
+abbrev pub invariant-loop-character : goal.invariant-loop-character
+invariant-loop-character l = list_any is_new_line (bytes_of l.chars.chars) ≡ list_any is_new_line (read_alone l.fn.dialect l.fn.gap)
 
-abbrev pub decreases-loop-c : goal.decreases-loop-c
-decreases-loop-c l = length l.chars.chars
+abbrev pub decreases-loop-character : goal.decreases-loop-character
+decreases-loop-character l = length l.chars.chars
