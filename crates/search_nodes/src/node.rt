@@ -35,8 +35,8 @@ pub struct Node {
 
 /// A node that isn't settled, on a chain of so many others.
 #[inline(always)]
-pub fn open_node(state: NodeState, parent: usize, brk: bool, before: usize, rank: u8) -> Node
-    ensures { result ≡ open_node state parent brk before (min rank 8 + 1) }
+pub fn open_node(state: NodeState, parent: usize, breaks: bool, before: usize, rank: u8) -> Node
+    ensures { result ≡ open_node state parent breaks before (min rank 8 + 1) }
 {
     Node {
         state,
@@ -45,7 +45,7 @@ pub fn open_node(state: NodeState, parent: usize, brk: bool, before: usize, rank
         before,
         rank: rank.min(MOST_ON_CHAIN) + 1,
         height: 0,
-        brk,
+        brk: breaks,
         settled: false,
         settled_before: 0,
     }
