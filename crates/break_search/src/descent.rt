@@ -58,23 +58,23 @@ pub(crate) struct Trying {
 
 /// What is tried where a choice leads to nothing.
 #[inline(always)]
-fn after(brk: bool) -> Choice
-    ensures { result ≡ after brk }
+fn after(breaks: bool) -> Choice
+    ensures { result ≡ after breaks }
 {
-    if brk { Choice::Back } else { Choice::Break }
+    if breaks { Choice::Back } else { Choice::Break }
 }
 
 /// What is known of what every whole breaking costs at least beyond the state to which a choice led behind a step.
 /// Where no other choice may be nothing is asked, since it is asked behind the next one.
 #[inline(always)]
-fn known_ahead(line: &SearchedLine<'_>, here: &Step, state: &NodeState, brk: bool) -> u64
+fn known_ahead(line: &SearchedLine<'_>, here: &Step, state: &NodeState, breaks: bool) -> u64
     requires line { IsSearchable line.now }
     requires some { 0 < here.now.state.index }
     requires more { here.now.state.index < length line.now.tokens }
     ensures { (layout : Layout) → layout.index ≡ state.now.index → layout.column ≡ state.now.column →
         result ≤ least_ahead line.now layout }
 {
-    if !brk && line.has_to_stay(&here.state) {
+    if !breaks && line.has_to_stay(&here.state) {
         return 0;
     }
     line.least_ahead(state.index, state.column)
@@ -89,30 +89,34 @@ fn go(
     trail: &mut Trail<'_>,
     trying: &mut Trying,
     here: &Step,
-    brk: bool,
+    breaks: bool,
 ) -> Result<Descent, NoMemory>
     requires line { IsSearchable line.now }
     requires budget { budget < 2 ^ 62 }
-    requires tries { IsTrying line.now store.old budget trail.old trying.old.most trying.old.next brk }
+    requires tries { IsTrying line.now store.old budget trail.old trying.old.most trying.old.next breaks }
     requires top { IsTop trail.old here.now }
     ensures { IfOk result
         (IsTurned line.now store.new budget trail.new trying.new.most trying.new.next trying.new.choice) }
 {
-    let Some(state) = line.successor(store, &here.state, brk)? else {
-        trying.choice = after(brk);
+    let Some(state) = line.successor(store, &here.state, breaks)? else {
+        trying.choice = after(breaks);
         return Ok(Descent::Goes);
     };
-    let least = state.cost + u128::from(known_ahead(line, here, &state, brk));
+    let least = state.cost + u128::from(known_ahead(line, here, &state, breaks));
     if least > trying.most {
         trying.next = least.min(trying.next);
-        trying.choice = after(brk);
+        trying.choice = after(breaks);
         return Ok(Descent::Goes);
     }
     let own = here.own + cells_in(store, &state);
     if own > budget {
         return Ok(Descent::Stops);
     }
-    trail.push(Step { state, own, brk })?;
+    trail.push(Step {
+        state,
+        own,
+        brk: breaks,
+    })?;
     trying.choice = Choice::Stay;
     if state.index as usize == line.count() {
         return Ok(Descent::Ends);
