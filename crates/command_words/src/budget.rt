@@ -16,8 +16,8 @@ fn digits_in(text: &[u8]) -> Option<u32>
     ensures { result ≡ if are_digits text.now then Some (digits_value 10 text.now) else None }
 {
     let mut number = 0;
-    for c in text {
-        let digit = char::from(*c).to_digit(10)?;
+    for byte in text {
+        let digit = char::from(*byte).to_digit(10)?;
         number = number * 10 + digit;
     }
     Some(number)

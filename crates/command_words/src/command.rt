@@ -71,11 +71,11 @@ fn names<'w>(alloc: Global, name: &'w str) -> Arg<'w>
 }
 
 /// The command with one word more.
-fn with_arg<'w>(command: Command<'w>, arg: Arg<'w>) -> Result<Command<'w>, AllocError>
-    requires { arg.global ≡ false }
-    ensures { IfOk result (λ grown. app_of grown ≡ with_rule (app_of command.entry) (rule_of arg.entry)) }
+fn with_arg<'w>(command: Command<'w>, argument: Arg<'w>) -> Result<Command<'w>, AllocError>
+    requires { argument.global ≡ false }
+    ensures { IfOk result (λ grown. app_of grown ≡ with_rule (app_of command.entry) (rule_of argument.entry)) }
 {
-    command.arg(arg)
+    command.arg(argument)
 }
 
 /// The command without words: those that `clap` has of its own are switched off.

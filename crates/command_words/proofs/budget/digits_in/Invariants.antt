@@ -9,5 +9,5 @@ pub record Behind (text rest : List ℕ) (so_far count : ℕ) : Type 0 where
   pub number : digits_value_after 10 so_far rest ≡ digits_value 10 text
   pub small : so_far < 10 ^ count
 
-abbrev pub invariant-loop-c : goal.invariant-loop-c
-invariant-loop-c l = Behind l.text (drop l.c-index l.text) l.number l.c-index
+abbrev pub invariant-loop-byte : goal.invariant-loop-byte
+invariant-loop-byte l = Behind l.text (drop l.byte-index l.text) l.number l.byte-index
