@@ -175,8 +175,9 @@ fn note_items<'r>(
     ensures touched { IfOk result
         (λ noted. AreTouched arena.now view.now classes.now (length classes.now) noted.touched.items) }
 {
+    let most = arena.comments().len().min(classes.len());
     let mut noted = Noted {
-        comments: Vec::new(run),
+        comments: Vec::with_capacity(run, most)?,
         cases: Vec::new(run),
         touched: Vec::new(run),
     };
@@ -206,9 +207,9 @@ fn places_of<'r>(comments: &[ViewComment], run: &'r Bump) -> Result<Vec<u32, &'r
 /// Tokens that are no comments, put one behind another, and how many of them stand before each place.
 #[derive(Drop)]
 struct Joined<'r> {
-    numbers: Vec<u32, &'r Bump>,
-    partners: Vec<Partner, &'r Bump>,
     classes: Vec<TokenClass, &'r Bump>,
+    partners: Vec<Partner, &'r Bump>,
+    numbers: Vec<u32, &'r Bump>,
 }
 
 /// Appends so many numbers, from one on.
@@ -289,10 +290,11 @@ fn join_tokens<'r>(
     ensures partners { IfOk result (λ joined. joined.partners.items ≡ code_partners classes.now partners.now) }
     ensures numbers { IfOk result (λ joined. joined.numbers.items ≡ numbers_of classes.now) }
 {
+    // Classes come last: they leave no gap before what is aligned, so all of it is given back.
     let mut joined = Joined {
-        classes: Vec::with_capacity(run, classes.len())?,
-        partners: Vec::with_capacity(run, classes.len())?,
         numbers: Vec::with_capacity(run, classes.len())?,
+        partners: Vec::with_capacity(run, classes.len())?,
+        classes: Vec::with_capacity(run, classes.len())?,
     };
     let mut from = 0;
     for comment in comments {

@@ -10,22 +10,22 @@ pub note_place-requires-clause-before : goal.note_place-requires-clause-before
 note_place-requires-clause-before c =
     let classes = c.args.classes.now in
     let k = c.loop-place.place in
-    let n = c.usual_len-place.result in
+    let n = c.usual_len.result in
     let left = length-drop k classes in
-    let most : k + n ≤ length classes = omega (arith, c.usual_len-place.ensures.within, left, c.loop-place.invariant.most) in
+    let most : k + n ≤ length classes = omega (arith, c.usual_len.ensures.within, left, c.loop-place.invariant.most) in
     let noted = usual_items c.args.arena.now c.args.view.now classes n k If c.loop-place.noted.comments.items c.loop-place.noted.touched.items c.loop-place.invariant.noted most
-    (λ j lt. ap is_usual (sym (get_or-take (length classes - k) (drop k classes) j If (omega (arith, lt, most)) ∙ get_or-drop k classes j If)) ∙ c.usual_len-place.ensures.usual j If lt) in
+    (λ j lt. ap is_usual (sym (get_or-take (length classes - k) (drop k classes) j If (omega (arith, lt, most)) ∙ get_or-drop k classes j If)) ∙ c.usual_len.ensures.usual j If lt) in
     noted
 
 pub loop-place-preserved : goal.loop-place-preserved
 loop-place-preserved c =
     let classes = c.args.classes.now in
     let k = c.loop-place.place in
-    let n = c.usual_len-place.result in
+    let n = c.usual_len.result in
     let left = length-drop k classes in
-    let most : k + n ≤ length classes = omega (arith, c.usual_len-place.ensures.within, left, c.loop-place.invariant.most) in
+    let most : k + n ≤ length classes = omega (arith, c.usual_len.ensures.within, left, c.loop-place.invariant.most) in
     let noted = usual_items c.args.arena.now c.args.view.now classes n k If c.loop-place.noted.comments.items c.loop-place.noted.touched.items c.loop-place.invariant.noted most
-    (λ j lt. ap is_usual (sym (get_or-take (length classes - k) (drop k classes) j If (omega (arith, lt, most)) ∙ get_or-drop k classes j If)) ∙ c.usual_len-place.ensures.usual j If lt) in
+    (λ j lt. ap is_usual (sym (get_or-take (length classes - k) (drop k classes) j If (omega (arith, lt, most)) ∙ get_or-drop k classes j If)) ∙ c.usual_len.ensures.usual j If lt) in
     record { noted = noted; most = most }
 
 pub returns-clause-comments : goal.returns-clause-comments
