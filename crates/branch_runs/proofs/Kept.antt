@@ -30,3 +30,6 @@ keeps nodes count marks is fit need_is = record {
 
 pub small_nodes : (nodes : List Node) (marks : List Mark) (n : ℕ) → map node_mark nodes ≡ marks → length marks ≤ n → length nodes ≤ n
 small_nodes nodes marks n is h = rw (← length-map nodes node_mark, is) h
+
+pub small_linked : (new old : List Node) (n : ℕ) → map node_mark new ≡ map node_mark old → length old ≤ n → length new ≤ n
+small_linked new old n is h = small_nodes new (map node_mark old) n is (rw (length-map old node_mark) h)

@@ -1,12 +1,12 @@
 -- A step over the sections from their end keeps what is kept right.
-use Rattle.std.proofs.Common.{◌≡◌, ◌∙◌, ℕ, ◌+◌, ◌-◌, ◌*◌, ◌<◌, ◌≤◌, max, List, [], ◌∷◌, map, get_or, length, drop, refl, sym, ap, subst, arith}
+use Rattle.std.proofs.Common.{set, ◌≡◌, ◌∙◌, ℕ, ◌+◌, ◌-◌, ◌*◌, ◌<◌, ◌≤◌, max, List, [], ◌∷◌, map, get_or, length, drop, refl, sym, ap, subst, arith}
 use Rattle.branch_runs.specs.declared.mark.MarkKind.{MarkKind}
 use Rattle.branch_runs.specs.declared.mark.MarkKind.TheVariants.{Text, IfZero, Opens, Branch, LastBranch, Ends, Flat}
 use Rattle.branch_runs.specs.declared.mark.Mark.{Mark}
 use Rattle.branch_runs.specs.declared.node.Level.{Level}
 use Rattle.branch_runs.specs.declared.node.Node.{Node}
-use Rattle.std.proofs.lemmas.List.{drop_more}
-use Rattle.std.proofs.Math.Seq.{drop-length}
+use Rattle.std.proofs.lemmas.List.{drop_more, drop-set, get_or-map, length-map}
+use Rattle.std.proofs.Math.Seq.{drop-length, map-set_same}
 use Rattle.branch_runs.specs.Tree.{Group, nothing}
 use Rattle.branch_runs.specs.Reading.{Around, branches_of, outside, rest_with, rest_of}
 use Rattle.branch_runs.specs.Runs.{need, needs}
@@ -140,7 +140,6 @@ node_fits marks count at n levels m end here is fits within from =
 
 -- what is right of the nodes, the need and the levels from a section on
 pub record Right (marks : List Mark) (at : ℕ) (nodes : List Node) (n : ℕ) (levels : List Level) : Type 0 where
-  pub marks_are : map node_mark nodes ≡ drop at marks
   pub nodes_fit : FitNodes marks at nodes
   pub need_is : n ≡ need (rest_at marks at).0
   pub levels_fit : FitLevels marks levels (rest_at marks at).1
@@ -153,28 +152,53 @@ right-one marks p n nodes levels m d within is right =
     let here : drop p marks ≡ m ∷ drop (p + 1) marks = rw is (drop_more marks p d within) in
     let fits = node_fits marks (length marks) p n levels m (drop-length marks) here right.need_is right.levels_fit within right.from in
     record {
-      marks_are = rw (here, right.marks_are) refl;
       nodes_fit = (fits.1, right.nodes_fit);
       need_is = fits.0.0;
       levels_fit = fits.0.1;
       from = from_after (length marks) p n m.kind levels within right.from;
     }
 
-pub turn : (marks : List Mark) (at n more : ℕ) (nodes new : List Node) (levels after : List Level) (level : Level) (d : Mark)
-    → 0 < at → at ≤ length marks → Right marks at nodes n levels
-    → level ≡ level_of (length marks) levels
-    → new ≡ record { first = (get_or marks (at - 1) d).first; end = (get_or marks (at - 1) d).end; kind = (get_or marks (at - 1) d).kind; need = n; later = level.later; next = level.next } ∷ nodes
-    → (more, after) ≡ links_after (length marks) (at - 1) (get_or marks (at - 1) d).kind n levels
-    → Right marks (at - 1) new more after
-turn marks at n more nodes new levels after level d some within right top pushed linked =
-    let e : at ≡ at - 1 + 1 = omega arith in
-    let before : Right marks (at - 1 + 1) nodes n levels = subst (λ k. Right marks k nodes n levels) e right in
-    let one = right-one marks (at - 1) n nodes levels (get_or marks (at - 1) d) d (omega arith) refl before in
-    rw (pushed, top) (subst (λ (x : ℕ × List Level). Right marks (at - 1) (record { first = (get_or marks (at - 1) d).first; end = (get_or marks (at - 1) d).end; kind = (get_or marks (at - 1) d).kind; need = n; later = (level_of (length marks) levels).later; next = (level_of (length marks) levels).next } ∷ nodes) x.0 x.1) (sym linked) one)
-
-pub small_turn : (marks : List Mark) (at n more p : ℕ) (kind : MarkKind) (levels after : List Level) → 0 < at
-    → total n levels + 2 * at ≤ 2 * length marks + 1 → (more, after) ≡ links_after (length marks) p kind n levels
-    → total more after + 2 * (at - 1) ≤ 2 * length marks + 1
-small_turn marks at n more p kind levels after some small linked =
-    let grown : total more after ≤ total n levels + 2 = subst (λ (x : ℕ × List Level). total x.0 x.1 ≤ total n levels + 2) (sym linked) (total_after (length marks) p n kind levels) in
+small_turn : (count at n more p : ℕ) (kind : MarkKind) (levels after : List Level) → 0 < at
+    → total n levels + 2 * at ≤ 2 * count + 1 → (more, after) ≡ links_after count p kind n levels
+    → total more after + 2 * (at - 1) ≤ 2 * count + 1
+small_turn count at n more p kind levels after some small linked =
+    let grown : total more after ≤ total n levels + 2 = subst (λ (x : ℕ × List Level). total x.0 x.1 ≤ total n levels + 2) (sym linked) (total_after count p n kind levels) in
     omega (arith, grown, small)
+
+-- what is right where one node more is linked
+pub record Turned (old new : List Node) (at n : ℕ) (levels : List Level) : Type 0 where
+  pub marks_are : map node_mark new ≡ map node_mark old
+  pub right : Right (map node_mark old) at (drop at new) n levels
+  pub small : total n levels + 2 * at ≤ 2 * length old + 1
+
+pub turn : (old nodes new : List Node) (at n more : ℕ) (levels after : List Level) (level : Level) (d : Node)
+    → 0 < at → at ≤ length old → map node_mark nodes ≡ map node_mark old → Right (map node_mark old) at (drop at nodes) n levels
+    → level ≡ level_of (length old) levels
+    → new ≡ set nodes (at - 1) (record { first = (get_or nodes (at - 1) d).first; end = (get_or nodes (at - 1) d).end; kind = (get_or nodes (at - 1) d).kind; need = n; later = level.later; next = level.next })
+    → (more, after) ≡ links_after (length old) (at - 1) (get_or nodes (at - 1) d).kind n levels
+    → total n levels + 2 * at ≤ 2 * length old + 1
+    → Turned old new (at - 1) more after
+turn old nodes new at n more levels after level d some within same right top set_is linked small =
+    let marks : List Mark = map node_mark old in
+    let p : ℕ = at - 1 in
+    let read : Node = get_or nodes p d in
+    let written : Node = record { first = read.first; end = read.end; kind = read.kind; need = n; later = level.later; next = level.next } in
+    let e : at ≡ p + 1 = omega arith in
+    let count : length marks ≡ length old = length-map old node_mark in
+    let count_now : length nodes ≡ length marks = sym (length-map nodes node_mark) ∙ ap length same in
+    let there : p < length nodes = omega (arith, count, count_now) in
+    let pushed : drop p new ≡ written ∷ drop at nodes = ap (drop p) set_is ∙ drop-set nodes p written there ∙ ap (λ k. written ∷ drop k nodes) (sym e) in
+    let mark_is : node_mark read ≡ get_or marks p (node_mark d) = sym (get_or-map node_mark nodes p d (node_mark d) there) ∙ ap (λ ms. get_or ms p (node_mark d)) same in
+    let top_is : level ≡ level_of (length marks) levels = top ∙ ap (λ k. level_of k levels) (sym count) in
+    let linked_is : (more, after) ≡ links_after (length marks) p read.kind n levels = linked ∙ ap (λ k. links_after k p read.kind n levels) (sym count) in
+    let before : Right marks (p + 1) (drop at nodes) n levels = subst (λ k. Right marks k (drop at nodes) n levels) e right in
+    let one = right-one marks p n (drop at nodes) levels (node_mark read) (node_mark d) (omega (arith, there, count_now)) mark_is before in
+    let told : Right marks p (record { first = read.first; end = read.end; kind = read.kind; need = n; later = (level_of (length marks) levels).later; next = (level_of (length marks) levels).next } ∷ drop at nodes) more after =
+    subst (λ (x : ℕ × List Level). Right marks p (record { first = read.first; end = read.end; kind = read.kind; need = n; later = (level_of (length marks) levels).later; next = (level_of (length marks) levels).next } ∷ drop at nodes) x.0 x.1) (sym linked_is) one in
+    let topped : Right marks p (written ∷ drop at nodes) more after =
+    subst (λ (l : Level). Right marks p (record { first = read.first; end = read.end; kind = read.kind; need = n; later = l.later; next = l.next } ∷ drop at nodes) more after) (sym top_is) told in
+    record {
+      marks_are = ap (map node_mark) set_is ∙ map-set_same node_mark nodes p written d refl ∙ same;
+      right = subst (λ ns. Right marks p ns more after) (sym pushed) topped;
+      small = small_turn (length old) at n more p read.kind levels after some small linked;
+    }

@@ -2,16 +2,18 @@
 
 ghost use Rattle.std.specs.Prelude.{◌≡◌, ◌<◌, ◌≤◌, ◌+◌, ◌++◌, ◌^◌, [], All, IfOk, length, map, replicate};
 ghost use Rattle.branch_runs.specs.Marks.{mark_of};
+ghost use Rattle.branch_runs.specs.Links.{node_mark};
 ghost use Rattle.branch_runs.specs.Operands.{IsWithin};
 ghost use Rattle.branch_runs.specs.Reading.{effects, kind_in, open_after};
 ghost use Rattle.branch_runs.specs.Dead.{groups_around, has_zero};
 ghost use Rattle.branch_runs.specs.Flags.{flags_in};
 
 use crate::mark::mark_of;
+use crate::node::Node;
 use crate::open_groups::OpenGroups;
-use crate::{Mark, MarkKind, NoMemory};
+use crate::{MarkKind, NoMemory};
 use bumpalo::Bump;
-use bumpalo::collections::into_bump_slice;
+use bumpalo::collections::{into_bump_slice, into_bump_slice_mut};
 use token_arena::{Section, TokenArena};
 
 // Adds a flag so many times.
@@ -37,16 +39,16 @@ fn enter(groups: &mut OpenGroups<'_>, kind: MarkKind) -> Result<(MarkKind, bool)
     Ok((kind, before && after))
 }
 
-/// The marks of sections with what these do where they stand, and for each item whether it stands in the group of a
+/// A node for each section, with what it does where it stands, and for each item whether it stands in the group of a
 /// literal `#if 0`.
 pub(crate) fn effects<'a>(
     arena: &TokenArena<'_, '_>,
     sections: &[Section],
     bump: &'a Bump,
-) -> Result<(&'a [Mark], &'a [bool]), NoMemory>
+) -> Result<(&'a mut [Node], &'a [bool]), NoMemory>
     requires few { length sections.now < 2 ^ 31 }
     requires within { All (IsWithin (length arena.now.tokens)) sections.now }
-    ensures marks { IfOk result (λ r. r.0.now ≡ effects (map (mark_of arena.now) sections.now)) }
+    ensures marks { IfOk result (λ r. map node_mark r.0.now ≡ effects (map (mark_of arena.now) sections.now)) }
     ensures dead { IfOk result (λ r. r.1.now ≡ flags_in [] (effects (map (mark_of arena.now) sections.now))) }
 {
     let mut groups = OpenGroups::new(bump);
@@ -55,12 +57,8 @@ pub(crate) fn effects<'a>(
     for section in sections {
         let mark = mark_of(arena, *section);
         let (kind, dead) = enter(&mut groups, mark.kind)?;
-        done.push(Mark {
-            first: mark.first,
-            end: mark.end,
-            kind,
-        })?;
+        done.push(Node::alone(mark.first, mark.end, kind))?;
         push_flags(&mut flags, mark.end.saturating_sub(mark.first), dead)?;
     }
-    Ok((into_bump_slice(done), into_bump_slice(flags)))
+    Ok((into_bump_slice_mut(done), into_bump_slice(flags)))
 }

@@ -1,4 +1,4 @@
-//! From marks to nodes, in one pass from the end.
+//! What a walk needs of each section, told in one pass from the end.
 
 ghost use Rattle.std.specs.Prelude.{◌≡◌, ◌<◌, ◌≤◌, map, length, IfOk};
 ghost use Rattle.c_chars.specs.declared.TheConstants.{LIMIT};
@@ -7,36 +7,38 @@ ghost use Rattle.branch_runs.specs.Fits.{FitNodes};
 ghost use Rattle.branch_runs.specs.Reading.{rest_of};
 ghost use Rattle.branch_runs.specs.Runs.{need};
 
+use crate::NoMemory;
 use crate::node::{Node, link, peek_level};
 use crate::stack::Stack;
-use crate::{Mark, NoMemory};
 use bumpalo::Bump;
 
-/// The nodes of sections that do what their marks say, and how many runs they need.
-pub(crate) fn nodes_of<'a>(marks: &[Mark], bump: &'a Bump) -> Result<(&'a [Node], u32), NoMemory>
-    requires { length marks.now ≤ LIMIT }
-    ensures marks { IfOk result (λ r. map node_mark r.0.now ≡ marks.now) }
-    ensures fit { IfOk result (λ r. FitNodes marks.now 0 r.0.now) }
-    ensures need { IfOk result (λ r. r.1 ≡ need (rest_of marks.now).0) }
+/// The nodes of sections with what a walk needs of them, and how many runs they need.
+pub(crate) fn link_nodes<'a>(
+    nodes: &'a mut [Node],
+    bump: &Bump,
+) -> Result<(&'a [Node], u32), NoMemory>
+    requires { length nodes.old ≤ LIMIT }
+    ensures marks { IfOk result (λ r. map node_mark r.0.now ≡ map node_mark nodes.old) }
+    ensures fit { IfOk result (λ r. FitNodes (map node_mark nodes.old) 0 r.0.now) }
+    ensures need { IfOk result (λ r. r.1 ≡ need (rest_of (map node_mark nodes.old)).0) }
 {
-    let count = marks.len() as u32;
-    let mut nodes = Stack::with_room(bump, marks.len())?;
+    let count = nodes.len() as u32;
     let mut levels = Stack::new(bump);
     let mut need = 1;
     let mut at = count;
     while at > 0 {
         at -= 1;
-        let mark = marks[at as usize];
+        let node = nodes[at as usize];
         let level = peek_level(&levels, count);
-        nodes.push(Node {
-            first: mark.first,
-            end: mark.end,
-            kind: mark.kind,
+        nodes[at as usize] = Node {
+            first: node.first,
+            end: node.end,
+            kind: node.kind,
             need,
             later: level.later,
             next: level.next,
-        })?;
-        need = link(count, at, mark.kind, need, &mut levels)?;
+        };
+        need = link(count, at, node.kind, need, &mut levels)?;
     }
-    Ok((nodes.into_slice(), need))
+    Ok((nodes, need))
 }

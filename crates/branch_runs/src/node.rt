@@ -24,6 +24,22 @@ pub(crate) struct Node {
     pub next: u32,
 }
 
+impl Node {
+    /// A section of which it isn't known yet what a walk needs.
+    pub fn alone(first: u32, end: u32, kind: MarkKind) -> Node
+        ensures { node_mark result ≡ record { first = first; end = end; kind = kind } }
+    {
+        Node {
+            first,
+            end,
+            kind,
+            need: 0,
+            later: 0,
+            next: 0,
+        }
+    }
+}
+
 /// A conditional that is open for a reading from the end.
 #[derive(Clone, Copy)]
 pub(crate) struct Level {

@@ -5,7 +5,6 @@ ghost use Rattle.branch_runs.specs.Front.{IsFront};
 
 use crate::NoMemory;
 use bumpalo::Bump;
-use bumpalo::collections::into_bump_slice;
 use std::marker::Model;
 
 /// A stack. A contract sees the list of what it holds, the last pushed first.
@@ -32,15 +31,6 @@ impl<'a, T: Drop> Stack<'a, T> {
         }
     }
 
-    /// A stack that holds nothing, with room for so many values before more memory is taken.
-    pub fn with_room(bump: &'a Bump, room: usize) -> Result<Self, NoMemory>
-        ensures { IfOk result (λ stack. stack ≡ []) }
-    {
-        Ok(Stack {
-            items: Vec::with_capacity(bump, room)?,
-        })
-    }
-
     /// Puts a value to the front.
     pub fn push(&mut self, entry: T) -> Result<(), NoMemory>
         ensures ok { IfOk result (λ _. self.new ≡ entry ∷ self.old) }
@@ -64,13 +54,5 @@ impl<'a, T: Drop> Stack<'a, T> {
         ensures { MatchOption result (self.now ≡ []) (λ x. IsFront self.now x) }
     {
         self.items.last().copied()
-    }
-
-    /// What it holds, the front first.
-    pub fn into_slice(mut self) -> &'a [T]
-        ensures { result.now ≡ self.entry }
-    {
-        self.items.reverse();
-        into_bump_slice(self.items)
     }
 }

@@ -5,6 +5,7 @@ ghost use Rattle.c_chars.specs.declared.TheConstants.{LIMIT};
 ghost use Rattle.token_arena.specs.Ids.{Increase};
 ghost use Rattle.token_arena.specs.Sections.{sections_of, IsCut};
 ghost use Rattle.branch_runs.specs.Marks.{marks_of};
+ghost use Rattle.branch_runs.specs.Links.{node_mark};
 ghost use Rattle.branch_runs.specs.Reading.{read, effects};
 ghost use Rattle.branch_runs.specs.Runs.{need, view_of};
 ghost use Rattle.branch_runs.specs.Dead.{is_dead_in};
@@ -13,14 +14,14 @@ ghost use Rattle.branch_runs.specs.Cut.{IsCutFrom, end_of};
 ghost use Rattle.branch_runs.specs.Anew.{IsChange, items_between};
 ghost use Rattle.branch_runs.specs.Flags.{flags_in};
 
+use crate::NoMemory;
 use crate::change::{Change, changes_of};
 use crate::effect::effects;
-use crate::link::nodes_of;
+use crate::link::link_nodes;
 use crate::node::{Node, end_of};
 use crate::seen::seen_texts;
 use crate::visible::Visible;
 use crate::window::stretches_between;
-use crate::{Mark, NoMemory};
 use bumpalo::Bump;
 use std::marker::Model;
 use token_arena::{Section, TokenArena, TokenId, View};
@@ -63,23 +64,23 @@ impl<'a> CondTree<'a> {
         ensures together { IfOk result (λ _. NeverParted (marks_of arena.now)) }
     {
         let _items = arena.len();
-        let (marks, dead) = effects(arena, sections, bump)?;
-        let tree = CondTree::of_effects(marks, dead, bump)?;
+        let (nodes, dead) = effects(arena, sections, bump)?;
+        let tree = CondTree::of_effects(nodes, dead, bump)?;
         Ok(tree)
     }
 
-    // The tree of marks that have what their sections do where they stand, with the flags of their dead items.
+    // The tree of nodes that have what their sections do where they stand, with the flags of their dead items.
     fn of_effects(
-        marks: &[Mark],
+        nodes: &'a mut [Node],
         dead: &'a [bool],
         bump: &'a Bump,
     ) -> Result<CondTree<'a>, NoMemory>
-        requires small { length marks.now ≤ LIMIT }
-        requires cut { IsCutFrom 0 marks.now }
-        requires dead { dead.now ≡ flags_in [] marks.now }
-        ensures { IfOk result (λ tree. tree ≡ marks.now) }
+        requires small { length nodes.old ≤ LIMIT }
+        requires cut { IsCutFrom 0 (map node_mark nodes.old) }
+        requires dead { dead.now ≡ flags_in [] (map node_mark nodes.old) }
+        ensures { IfOk result (λ tree. tree ≡ map node_mark nodes.old) }
     {
-        let (nodes, count) = nodes_of(marks, bump)?;
+        let (nodes, count) = link_nodes(nodes, bump)?;
         let texts = seen_texts(nodes, count, bump)?;
         let changes = changes_of(texts, count, bump)?;
         let texts = Visible::make(texts, bump)?;
