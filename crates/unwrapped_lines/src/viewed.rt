@@ -65,9 +65,9 @@ fn is_other(class: TokenClass) -> bool
 /// What is noted of a view: its comments, which of its tokens are a `case`, and which of its items a colon touches.
 #[derive(Drop)]
 struct Noted<'r> {
-    comments: Vec<ViewComment, &'r Bump>,
-    cases: Vec<usize, &'r Bump>,
     touched: Vec<bool, &'r Bump>,
+    cases: Vec<usize, &'r Bump>,
+    comments: Vec<ViewComment, &'r Bump>,
 }
 
 /// Notes that a colon touches the item at a place, behind those of which it is told.
@@ -290,11 +290,12 @@ fn join_tokens<'r>(
     ensures partners { IfOk result (λ joined. joined.partners.items ≡ code_partners classes.now partners.now) }
     ensures numbers { IfOk result (λ joined. joined.numbers.items ≡ numbers_of classes.now) }
 {
-    // Classes come last: they leave no gap before what is aligned, so all of it is given back.
+    // Classes take a byte each. Room for full words of them leaves no gap behind it, so all is given back.
+    let bytes = classes.len() / 4 * 4 + 4;
     let mut joined = Joined {
         numbers: Vec::with_capacity(run, classes.len())?,
         partners: Vec::with_capacity(run, classes.len())?,
-        classes: Vec::with_capacity(run, classes.len())?,
+        classes: Vec::with_capacity(run, bytes)?,
     };
     let mut from = 0;
     for comment in comments {
