@@ -83,17 +83,15 @@ impl<'r> Model for Lines<'r> {
 }
 
 impl<'r> Lines<'r> {
-    /// None, to which so many are to be added that are kept here.
-    pub(crate) fn within(
-        rows: Vec<ULine, &'r Bump>,
-        count: usize,
-        run: &'r Bump,
-    ) -> Result<Lines<'r>, NoMemory>
+    /// None, to which lines are to be added that are kept here. The levels apart have no room before one is needed.
+    pub(crate) fn within(rows: Vec<ULine, &'r Bump>, run: &'r Bump) -> Lines<'r>
         requires { rows.items ≡ [] }
-        ensures { IfOk result (λ lines. lines ≡ []) }
+        ensures { result ≡ [] }
     {
-        let levels = Vec::with_capacity(run, count)?;
-        Ok(Lines { levels, rows })
+        Lines {
+            levels: Vec::new(run),
+            rows,
+        }
     }
 
     /// Adds a line. Mostly there is room, and no call is made.

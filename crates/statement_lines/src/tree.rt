@@ -307,7 +307,7 @@ pub fn tree_lines<'r>(
 {
     // Each line has a token and opens one list at most, so there is room for all. What isn't filled isn't touched.
     let count = tokens.count();
-    let mut out = Lines::within(room, count, run)?;
+    let mut out = Lines::within(room, run);
     let mut stack = Vec::with_capacity(run, count + 1)?;
     push_open(&mut stack, whole_file(tokens))?;
     let mut place = Place {

@@ -3,7 +3,7 @@ use Rattle.statement_lines.proofs.TurnLemmas.{all_read, at_start, less_left, sta
 use Rattle.statement_lines.proofs.tree.tree_lines.Goals as goal
 
 pub loop-opened-init : goal.loop-opened-init
-loop-opened-init c = at_start _ _ _ _ _ _ c.in_ok-out.ensures c.in_ok-stack.ensures.items c.whole_file.ensures c.in_ok-push_open.ensures.items
+loop-opened-init c = at_start _ _ _ _ _ _ c.within-out.ensures c.in_ok-stack.ensures.items c.whole_file.ensures c.in_ok-push_open.ensures.items
 
 pub turn-requires-clause-stands : goal.turn-requires-clause-stands
 turn-requires-clause-stands c = stands_within _ _ _ _ _ _ _ _ c.in-Some.ensures.items c.loop-opened.invariant
